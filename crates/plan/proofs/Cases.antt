@@ -1,0 +1,178 @@
+-- 'Proved cases, with the group above as the first': one list, over literal bytes, computed by the prover. Each group's bytes
+-- are also the file that its values make. Values that document 01 leaves open are in docs/DECISIONS.md. Assumes nothing.
+use mathlib.Core.Path.{_≡_, refl}
+use mathlib.Core.List.{List, [], _∷_, map}
+use Prim.Native.Nat.{ℕ, _*_}
+use lib.IntN.{ℤ, pos}
+use Rattle.plan.specs.Arithmetic.{nearest}
+use Rattle.plan.specs.Field.{bit, number, field}
+use Rattle.plan.specs.Header.{Header, headerOf}
+use Rattle.plan.specs.File.{bytesOf, fileOf}
+use Rattle.plan.specs.Losses.{Losses, lossesIn}
+use Rattle.plan.specs.Marks.{LG, LH}
+use Rattle.plan.specs.Ratable.{SX, SS, ratable}
+use Rattle.plan.specs.Basic.{basicPremium, excessCharge}
+use Rattle.plan.specs.Premium.{billRounding, unrounded, billedPremium}
+use Rattle.plan.specs.Demand3.{taxedExpensesAndLosses}
+use Rattle.plan.specs.Table.{chargeSum, savingsSum, charge, savings}
+use Rattle.plan.specs.Calls.{Answer, refused, given, Rated, ratedOf, rate, Tabled, table, Group, read, write}
+
+-- header values: limit, P, e, c, T, kind, maximum, minimum
+abbrev header : ℕ → ℕ → ℕ → ℕ → ℕ → ℕ → ℕ → ℕ → Header
+header l p e c t k g h =
+    record {
+      lossLimit = l;
+      standardPremium = p;
+      expense = e;
+      conversion = c;
+      tax = t;
+      markKind = k;
+      maximumMark = g;
+      minimumMark = h;
+    }
+
+abbrev group : Header → List ℕ → List ℕ → Group
+group h counts claims = record { header = h; counts = counts; claims = claims }
+
+-- a file's values are g, and its bytes are those that g makes
+abbrev Written : Group → List ℕ → Type 0
+Written g s = fileOf (g .header) (g .counts) (g .claims) ≡ s
+
+-- ---- the groups
+
+-- 'P 10,000, e 2,000, c 1.100, T 1.0500, limit 5,000, loss ratio marks 0.900 and 0.200. Claims: none; 3,000 and 1,000; 7,000;
+-- 5,000, 6,000 and 2,000.'
+abbrev four : Group
+four =
+    group (header 5000 10000 2000 1100 10500 0 900 200) (0 ∷ 2 ∷ 1 ∷ 3 ∷ []) (3000 ∷ 1000 ∷ 7000 ∷ 5000 ∷ 6000 ∷ 2000 ∷ [])
+
+abbrev pub fourFile : List ℕ
+fourFile =
+    16 ∷ 19 ∷ 136 ∷ 0 ∷ 156 ∷ 64 ∷ 1 ∷ 244 ∷ 34 ∷ 98 ∷ 144 ∷ 64 ∷ 225 ∷ 1 ∷ 144 ∷ 8 ∷ 0
+    ∷ 32 ∷ 11 ∷ 184 ∷ 0 ∷ 62 ∷ 128 ∷ 64 ∷ 109 ∷ 96 ∷ 48 ∷ 19 ∷ 136 ∷ 1 ∷ 119 ∷ 0 ∷ 7 ∷ 208 ∷ []
+
+-- 'Three risks, one claim of 1 in all, e 0, c 1.000, T 1.0000, no limit, entry marks 1.000 and 0'
+abbrev thirds : Group
+thirds = group (header 0 1 0 1000 10000 1 1000 0) (1 ∷ 0 ∷ 0 ∷ []) (1 ∷ [])
+
+abbrev pub thirdsFile : List ℕ
+thirdsFile =
+    16 ∷ 0 ∷ 0 ∷ 0 ∷ 0 ∷ 4 ∷ 0 ∷ 0 ∷ 31 ∷ 66 ∷ 113 ∷ 8 ∷ 250 ∷ 0 ∷ 0 ∷ 6 ∷ 4 ∷ 0 ∷ 0 ∷ 64 ∷ 0 ∷ []
+
+-- 'The same with two risks'
+abbrev halves : Group
+halves = group (header 0 1 0 1000 10000 1 1000 0) (1 ∷ 0 ∷ []) (1 ∷ [])
+
+abbrev halvesFile : List ℕ
+halvesFile = 16 ∷ 0 ∷ 0 ∷ 0 ∷ 0 ∷ 4 ∷ 0 ∷ 0 ∷ 31 ∷ 66 ∷ 113 ∷ 8 ∷ 250 ∷ 0 ∷ 0 ∷ 4 ∷ 4 ∷ 0 ∷ 0 ∷ 64 ∷ []
+
+-- 'Two risks of 10, e 0, T 1.0000, no limit, entry marks 6.000 and 0', with c
+abbrev tens : ℕ → Group
+tens c = group (header 0 1 0 c 10000 1 6000 0) (1 ∷ 1 ∷ []) (10 ∷ 10 ∷ [])
+
+abbrev tensFile2000 : List ℕ
+tensFile2000 =
+    16 ∷ 0 ∷ 0 ∷ 0 ∷ 0 ∷ 4 ∷ 0 ∷ 0 ∷ 62 ∷ 130 ∷ 113 ∷ 13 ∷ 220 ∷ 0 ∷ 0 ∷ 4 ∷ 4 ∷ 0 ∷ 2 ∷ 129 ∷ 0 ∷ 0 ∷ 160 ∷ []
+
+abbrev tensFile1000 : List ℕ
+tensFile1000 =
+    16 ∷ 0 ∷ 0 ∷ 0 ∷ 0 ∷ 4 ∷ 0 ∷ 0 ∷ 31 ∷ 66 ∷ 113 ∷ 13 ∷ 220 ∷ 0 ∷ 0 ∷ 4 ∷ 4 ∷ 0 ∷ 2 ∷ 129 ∷ 0 ∷ 0 ∷ 160 ∷ []
+
+-- 'Loss ratio marks 0.900 and 0.950, c 1.000', with P
+abbrev crossing : ℕ → Group
+crossing p = group (header 0 p 0 1000 10000 0 900 950) (1 ∷ []) (1 ∷ [])
+
+abbrev crossingFile1 : List ℕ
+crossingFile1 = 16 ∷ 0 ∷ 0 ∷ 0 ∷ 0 ∷ 4 ∷ 0 ∷ 0 ∷ 31 ∷ 66 ∷ 113 ∷ 0 ∷ 225 ∷ 7 ∷ 108 ∷ 2 ∷ 4 ∷ 0 ∷ 0 ∷ 64 ∷ []
+
+abbrev crossingFile1000 : List ℕ
+crossingFile1000 = 16 ∷ 0 ∷ 0 ∷ 0 ∷ 15 ∷ 160 ∷ 0 ∷ 0 ∷ 31 ∷ 66 ∷ 113 ∷ 0 ∷ 225 ∷ 7 ∷ 108 ∷ 2 ∷ 4 ∷ 0 ∷ 0 ∷ 64 ∷ []
+
+-- 'With limit 5,000, claims of 5,000 and 5,001', and entry marks, which are ratios of limited losses
+abbrev limits : Group
+limits = group (header 5000 1 0 1000 10000 1 6000 0) (1 ∷ 1 ∷ []) (5000 ∷ 5001 ∷ [])
+
+abbrev limitsFile : List ℕ
+limitsFile =
+    16 ∷ 19 ∷ 136 ∷ 0 ∷ 0 ∷ 4 ∷ 0 ∷ 0 ∷ 31 ∷ 66 ∷ 113 ∷ 13 ∷ 220 ∷ 0 ∷ 0 ∷ 4 ∷ 4 ∷ 4 ∷ 226 ∷ 1 ∷ 1 ∷ 56 ∷ 144 ∷ []
+
+-- ---- what is said of them
+
+-- a group that is rated: n, M, Q, sum billed, premiums
+abbrev rates : ℕ → ℤ → ℕ → ℕ → List ℕ → Answer Rated
+rates n m q b ps = given (record { risks = n; basic = m; excess = q; billed = b; premiums = ps })
+
+abbrev tables : ℕ → ℕ → Answer Tabled
+tables c s = given (record { charge = c; savings = s })
+
+-- L, A, K of each risk
+abbrev totals : List ℕ → List ℕ
+totals s = map (λ r. r .total) (lossesIn s)
+
+abbrev limiteds : List ℕ → List ℕ
+limiteds s = map (λ r. r .limited) (lossesIn s)
+
+abbrev ratables : List ℕ → List ℕ
+ratables s = map (ratable (headerOf s) (lossesIn s)) (lossesIn s)
+
+abbrev lg : List ℕ → ℕ
+lg s = LG (headerOf s) (lossesIn s)
+
+abbrev lh : List ℕ → ℕ
+lh s = LH (headerOf s) (lossesIn s)
+
+-- the group of four, as `retro` prints it: 'group 4 6700000 3300000 33600', then risk number, L, A, K and premium
+fourCase :
+    Written four fourFile
+    × (rate fourFile 16 ≡ rates 4 (pos 6700000) 3300000 33600 (4935 ∷ 7245 ∷ 8400 ∷ 13020 ∷ []))
+    × (totals fourFile ≡ 0 ∷ 4000 ∷ 7000 ∷ 13000 ∷ [])
+    × (limiteds fourFile ≡ 0 ∷ 4000 ∷ 5000 ∷ 12000 ∷ [])
+    × (ratables fourFile ≡ 2000 ∷ 4000 ∷ 5000 ∷ 9000 ∷ [])
+    -- '1.05 × (8,000 + 24,000) = 33,600'
+    × (taxedExpensesAndLosses fourFile ≡ 10000000 * 4 * 33600)
+    × (read fourFile 4 6 ≡ given four)
+    × (write four 34 ≡ given fourFile)
+    × (rate fourFile 15 ≡ refused 13)
+unfolding bytesOf number bit field LG LH SX SS ratable basicPremium excessCharge nearest billRounding unrounded billedPremium ratedOf rate taxedExpensesAndLosses read write
+fourCase = (refl, refl, refl, refl, refl, refl, refl, refl, refl)
+
+-- 'Table on it: r 0 gives 1000 and 0; r 100 gives 321 and 321; r 200 gives 71 and 1071; r 300 gives 0 and 2000.' And r 25, where
+-- 812.5 and 62.5 thousandths are exact halves
+tableCase :
+    (table fourFile 0 ≡ tables 1000 0)
+    × (table fourFile 100 ≡ tables 321 321)
+    × (table fourFile 200 ≡ tables 71 1071)
+    × (table fourFile 300 ≡ tables 0 2000)
+    × (table fourFile 25 ≡ tables 813 63)
+unfolding number bit field nearest chargeSum savingsSum charge savings table
+tableCase = (refl, refl, refl, refl, refl)
+
+-- the other groups
+otherCases :
+    -- 'LG is 0, M is 1,000, billed 0, 0, 0'
+    Written thirds thirdsFile
+    × (lg thirdsFile ≡ 0)
+    × (rate thirdsFile 12 ≡ rates 3 (pos 1000) 0 0 (0 ∷ 0 ∷ 0 ∷ []))
+    -- 'billed 1 and 1, the exact total 1'
+    × Written halves halvesFile
+    × (rate halvesFile 8 ≡ rates 2 (pos 1000) 0 2 (1 ∷ 1 ∷ []))
+    × (taxedExpensesAndLosses halvesFile ≡ 10000000 * 2 * 1)
+    -- 'with c 2.000 refused 12; with c 1.000 M is 0, billed 10 and 10'
+    × Written (tens 2000) tensFile2000
+    × (rate tensFile2000 8 ≡ refused 12)
+    × Written (tens 1000) tensFile1000
+    × (rate tensFile1000 8 ≡ rates 2 (pos 0) 0 20 (10 ∷ 10 ∷ []))
+    -- 'P 1 passes question 11 (both 0); P 1,000 is refused 11'
+    × Written (crossing 1) crossingFile1
+    × (lg crossingFile1 ≡ 0)
+    × (lh crossingFile1 ≡ 0)
+    × (rate crossingFile1 4 ≡ rates 1 (pos 1000) 0 1 (1 ∷ []))
+    × Written (crossing 1000) crossingFile1000
+    × (rate crossingFile1000 4 ≡ refused 11)
+    -- 'both count 5,000'
+    × Written limits limitsFile
+    × (limiteds limitsFile ≡ 5000 ∷ 5000 ∷ [])
+    × (lg limitsFile ≡ 30000)
+unfolding bytesOf number bit field LG LH SX SS ratable basicPremium excessCharge nearest billRounding unrounded billedPremium ratedOf rate taxedExpensesAndLosses
+otherCases =
+    (refl, refl, refl, refl, refl, refl, refl, refl, refl, refl, refl, refl, refl, refl, refl, refl, refl, refl, refl)

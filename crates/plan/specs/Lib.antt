@@ -1,0 +1,18 @@
+-- Document 01 as definitions, in its order. The laws about them are in ../proofs; there is no code in this crate.
+pub mod Arithmetic
+-- The group file
+pub mod Field
+pub mod Header
+pub mod File
+-- From claims to premiums: steps 1 to 6, and demand 3
+pub mod Losses
+pub mod Marks
+pub mod Ratable
+pub mod Basic
+pub mod Premium
+pub mod Demand3
+-- The calls
+pub mod Table
+pub mod Calls
+-- Questions a file must pass
+pub mod Questions

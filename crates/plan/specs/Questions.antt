@@ -1,0 +1,148 @@
+-- 'Asked in this order. The first No is the result, as that number and nothing else, and no lent byte or number changes. No
+-- refusal has another cause.'
+use mathlib.Core.Bool.{Bool, true, false, _&&_}
+use mathlib.Core.List.{List, [], _∷_, _++_}
+use Prim.Native.Nat.{ℕ, _*_, _^_}
+use lib.Dec.{leb, ltb, eqb}
+use lib.ListN.{length}
+use lib.Signed.{nonNeg}
+use Rattle.plan.specs.Arithmetic.{sum}
+use Rattle.plan.specs.Header.{Header, headerOf, riskCount, valueOf, editionField, spareField, lossLimitField}
+use Rattle.plan.specs.Header.{standardPremiumField, expenseField, conversionField, taxField, markKindField}
+use Rattle.plan.specs.Header.{maximumMarkField, minimumMarkField, risksField}
+use Rattle.plan.specs.File.{countWidth, claimWidth, bytesFor, countsOf, endOf, fillOf, fileLength}
+use Rattle.plan.specs.Losses.{SA, lossesIn}
+use Rattle.plan.specs.Marks.{LG, LH}
+use Rattle.plan.specs.Basic.{basicPremium}
+
+-- a question: the number of its No, and its answer
+pub data Question : Type 0 where
+  ask : ℕ → Bool → Question
+
+-- what a list of questions comes to
+pub data Verdict : Type 0 where
+  passed : Verdict
+  failed : ℕ → Verdict
+
+-- 'The first No is the result'
+abbrev pub firstNo : List Question → Verdict
+firstNo [] = passed
+firstNo (ask k true ∷ qs) = firstNo qs
+firstNo (ask k false ∷ qs) = failed k
+
+-- ---- the questions, by number
+
+-- 3 to 7, of the header values and n: 'Is P at least 1?' 'Is c from 1,000 to 2,000?' 'Is T from 10,000 to 20,000?' 'Are both
+-- marks at most 6,000?' 'Is n at least 1?'
+abbrev pub headerQuestions : Header → ℕ → List Question
+headerQuestions h n =
+    ask 3 (leb 1 (h .standardPremium))
+    ∷ ask 4 (leb 1000 (h .conversion) && leb (h .conversion) 2000)
+    ∷ ask 5 (leb 10000 (h .tax) && leb (h .tax) 20000)
+    ∷ ask 6 (leb (h .maximumMark) 6000 && leb (h .minimumMark) 6000)
+    ∷ ask 7 (leb 1 n)
+    ∷ []
+
+-- 1 to 9, of a file: 'Has the file at least 16 bytes?' 'Is the edition 1 and the spare bit 0?' then 3 to 7, 'Does the file end
+-- with the byte that holds the last claim or count?' 'Are its fill bits zero?'
+abbrev pub fileQuestions : List ℕ → List Question
+fileQuestions s =
+    ask 1 (leb 16 (length s))
+    ∷ ask 2 (eqb (valueOf s editionField) 1 && eqb (valueOf s spareField) 0)
+    ∷ headerQuestions (headerOf s) (riskCount s)
+    ++ ask 8 (eqb (length s) (bytesFor (endOf s)))
+    ∷ ask 9 (eqb (fillOf s) 0)
+    ∷ []
+
+-- 'Is SA at least 1?'
+abbrev pub question10 : List ℕ → Question
+question10 s = ask 10 (leb 1 (SA (lossesIn s)))
+
+-- 'Is LH at most LG?'
+abbrev pub question11 : List ℕ → Question
+question11 s = ask 11 (leb (LH (headerOf s) (lossesIn s)) (LG (headerOf s) (lossesIn s)))
+
+-- 'Is M at least 0?'
+abbrev pub question12 : List ℕ → Question
+question12 s = ask 12 (nonNeg (basicPremium (headerOf s) (lossesIn s)))
+
+-- 1 to 10
+abbrev pub lossQuestions : List ℕ → List Question
+lossQuestions s = fileQuestions s ++ question10 s ∷ []
+
+-- 1 to 12
+abbrev pub ratingQuestions : List ℕ → List Question
+ratingQuestions s = lossQuestions s ++ question11 s ∷ question12 s ∷ []
+
+-- 'Is each lent buffer long enough?'
+abbrev pub question13 : Bool → Question
+question13 enough = ask 13 enough
+
+-- 'Is r at most 600?'
+abbrev pub question14 : ℕ → Question
+question14 r = ask 14 (leb r 600)
+
+-- a value fits so many bits
+abbrev pub fits : ℕ → ℕ → Bool
+fits w v = ltb v (2 ^ w)
+
+-- each value of a list does
+abbrev pub allFit : ℕ → List ℕ → Bool
+allFit w [] = true
+allFit w (v ∷ vs) = fits w v && allFit w vs
+
+-- the header values do
+abbrev pub headerFits : Header → Bool
+headerFits h =
+    fits (lossLimitField .width) (h .lossLimit)
+    && fits (standardPremiumField .width) (h .standardPremium)
+    && fits (expenseField .width) (h .expense)
+    && fits (conversionField .width) (h .conversion)
+    && fits (taxField .width) (h .tax)
+    && fits (markKindField .width) (h .markKind)
+    && fits (maximumMarkField .width) (h .maximumMark)
+    && fits (minimumMarkField .width) (h .minimumMark)
+
+-- 'Do n, counts, claims and header values fit their widths, and do the counts add to the number of claims?'
+abbrev pub question15 : Header → List ℕ → List ℕ → Question
+question15 h counts claims =
+    ask 15
+    (fits (risksField .width) (length counts)
+    && allFit countWidth counts
+    && allFit claimWidth claims
+    && headerFits h
+    && eqb (sum counts) (length claims))
+
+-- ---- the questions of each call, in its order; `room` is a lent buffer's length
+
+-- 'For Rate, 4 × n bytes are enough.'
+abbrev pub rateEnough : List ℕ → ℕ → Bool
+rateEnough s room = leb (4 * riskCount s) room
+
+-- 'Rate asks 1 to 13.'
+abbrev pub rateQuestions : List ℕ → ℕ → List Question
+rateQuestions s room = ratingQuestions s ++ question13 (rateEnough s room) ∷ []
+
+-- 'Table asks 1 to 10, then 14.'
+abbrev pub tableQuestions : List ℕ → ℕ → List Question
+tableQuestions s r = lossQuestions s ++ question14 r ∷ []
+
+-- for Read, n counts and as many claims as they add to are enough
+abbrev pub readEnough : List ℕ → ℕ → ℕ → Bool
+readEnough s countsRoom claimsRoom = leb (riskCount s) countsRoom && leb (sum (countsOf s)) claimsRoom
+
+-- 'Read asks 1 to 9, then 13.'
+abbrev pub readQuestions : List ℕ → ℕ → ℕ → List Question
+readQuestions s countsRoom claimsRoom = fileQuestions s ++ question13 (readEnough s countsRoom claimsRoom) ∷ []
+
+-- for Write, the file's length is enough
+abbrev pub writeEnough : Header → List ℕ → List ℕ → ℕ → Bool
+writeEnough h counts claims room = leb (fileLength h counts claims) room
+
+-- 'Write asks 3 to 7, then 15, then 13.' 'n is the number of counts.'
+abbrev pub writeQuestions : Header → List ℕ → List ℕ → ℕ → List Question
+writeQuestions h counts claims room =
+    headerQuestions h (length counts)
+    ++ question15 h counts claims
+    ∷ question13 (writeEnough h counts claims room)
+    ∷ []
