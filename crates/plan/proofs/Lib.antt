@@ -13,4 +13,5 @@ pub mod Demand3
 pub mod Decoded
 pub mod Writable
 pub mod RoundTrip
+pub mod Filling
 pub mod Cases

@@ -88,6 +88,25 @@ given-passed (failed k) a b e = (cc, cc)
 pub passed-given : {A : Type 0} {v : Verdict} (a : A) → v ≡ passed → answer v a ≡ given a
 passed-given a e = ap (λ (v : Verdict). answer v a) e
 
+-- a call whose list is a gate and one last question: the gate refuses, or the last question does, or the call gives
+
+pub gate-refuses : {A : Type 0} (gate rest : List Question) {k : ℕ} (a : A) → firstNo gate ≡ failed k
+    → answer (firstNo (gate ++ rest)) a ≡ refused k
+gate-refuses gate rest a e =
+    ap (λ (v : Verdict). answer v a) (first-append gate rest ∙ ap (λ (v : Verdict). orElse v (firstNo rest)) e)
+
+pub last-refuses : {A : Type 0} (gate : List Question) (k : ℕ) {b : Bool} (a : A) → firstNo gate ≡ passed → b ≡ false
+    → answer (firstNo (gate ++ ask k b ∷ [])) a ≡ refused k
+last-refuses gate k {b} a e last =
+    ap (λ (v : Verdict). answer v a) (first-append gate (ask k b ∷ []) ∙ ap (λ (v : Verdict). orElse v (firstNo (ask k b ∷ []))) e)
+    ∙ ap (λ (x : Bool). answer (firstNo (ask k x ∷ [])) a) last
+
+pub last-gives : {A : Type 0} (gate : List Question) (k : ℕ) {b : Bool} (a : A) → firstNo gate ≡ passed → b ≡ true
+    → answer (firstNo (gate ++ ask k b ∷ [])) a ≡ given a
+last-gives gate k {b} a e last =
+    ap (λ (v : Verdict). answer v a) (first-append gate (ask k b ∷ []) ∙ ap (λ (v : Verdict). orElse v (firstNo (ask k b ∷ []))) e)
+    ∙ ap (λ (x : Bool). answer (firstNo (ask k x ∷ [])) a) last
+
 -- ---- questions 3 to 7 as facts
 
 pub record HeaderSound (h : Header) (n : ℕ) : Type 0 where

@@ -37,7 +37,7 @@ use Rattle.plan.proofs.Rounding.{Within, bill-within, within-lt}
 -- ---- of any bytes
 
 -- k claims of 20 bits
-claims-le : (s : List ℕ) (at k : ℕ) → sum (fields s at 20 k) ≤ 1048575 * k
+pub claims-le : (s : List ℕ) (at k : ℕ) → sum (fields s at 20 k) ≤ 1048575 * k
 claims-le s at zero = omega arith
 claims-le s at (suc k) = omega (arith, field-lt s at 20, claims-le s (at + 20) k)
 
@@ -45,7 +45,7 @@ claims-le s at (suc k) = omega (arith, field-lt s at 20, claims-le s (at + 20) k
 pub risk-le : (s : List ℕ) (at : ℕ) → sum (claimsAt s at) ≤ 66060225
 risk-le s at = omega (arith, field-lt s at 6, claims-le s (at + 6) (countAt s at))
 
-limited-le : (limit x : ℕ) → limitedTo limit x ≤ x
+pub limited-le : (limit x : ℕ) → limitedTo limit x ≤ x
 limited-le zero x = omega arith
 limited-le (suc l) x = omega arith
 

@@ -34,6 +34,11 @@ abbrev pub answer : {A : Type 0} → Verdict → A → Answer A
 answer passed a = given a
 answer (failed k) a = refused k
 
+-- a part of what a call gives; a refusal has the same number
+abbrev pub giving : {A B : Type 0} → (A → B) → Answer A → Answer B
+giving f (refused k) = refused k
+giving f (given a) = given (f a)
+
 -- a lent number after a call that gives it; a refusal keeps it
 abbrev pub numberAfter : {A : Type 0} → (A → ℕ) → Answer A → ℕ → ℕ
 numberAfter new (refused k) old = old

@@ -1,0 +1,60 @@
+-- The field is in the word from its first byte on: one fact over the width. Assumes nothing.
+use mathlib.Core.Path.{_≡_, refl, sym, ap, _∙_}
+use Prim.Native.Nat.{ℕ, _-_, _/_, _%_, _^_}
+use borrow.Author.Needs.{needs}
+use Rattle.plan.specs.Field.{field}
+use Rattle.plan.proofs.Fields.{field-below}
+use Rattle.bits.proofs.Takes.{field-in-word}
+use Rattle.bits.proofs.BitPlace.take.Statement.{statement}
+use Rattle.bits.proofs.BitPlace.take.Tie as tie
+
+word-at-requires : tie.Need-word-at-requires
+word-at-requires c κs = search needs
+
+cast-skip : tie.Need-cast-skip
+cast-skip c = search needs
+
+sub-rest : tie.Need-sub-rest
+sub-rest c = search needs
+
+sub-rest-2 : tie.Need-sub-rest-2
+sub-rest-2 c = search needs
+
+extract-requires : tie.Need-extract-requires
+extract-requires c κs = search needs
+
+-- the word's part is the field
+value-is : (c : tie.After-extract) → let a = c .before .before .before .args in
+    c .extract .result ≡ field (a .file .now) (a .self .at) (a .width)
+value-is c =
+    let e = c .before .before .before in
+    let a = e .args in
+    let rest : ℕ = 63 - a .self .at % 8 - a .width in
+    c .extract .ensures
+    ∙ ap (λ (x : ℕ). x / 2 ^ 1 / 2 ^ rest % 2 ^ a .width) (c .before .word-at .ensures)
+    ∙ sym (field-in-word (a .file .now) (a .self .at) (a .width) (e .pre .narrow))
+
+cast-value : tie.Need-cast-value
+cast-value c =
+    let e = c .before .before .before in
+    let a = e .args in
+    record { fits = rw (value-is c) (field-below (a .file .now) (a .self .at) (a .width) 32 (e .pre .narrow)) }
+
+add-next : tie.Need-add-next
+add-next c = search needs
+
+returns : tie.Need-returns
+returns c = record { is = value-is c; place = refl }
+
+pub take-spec : {M : Type 1} → statement M
+take-spec =
+    tie.close
+    (tie.spec
+    word-at-requires
+    cast-skip
+    sub-rest
+    sub-rest-2
+    extract-requires
+    cast-value
+    add-next
+    returns)

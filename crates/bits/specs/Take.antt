@@ -1,0 +1,15 @@
+-- Taking a field: what it asks for, and what it gives.
+use mathlib.Core.Path.{_≡_}
+use mathlib.Core.List.{List}
+use Prim.Native.Nat.{ℕ, _+_, _^_, _≤_, _<_}
+use Rattle.plan.specs.Field.{field}
+
+-- a field of w bits at the place `at` is at most 32 bits wide, and the next place is a number of 64 bits
+pub record Reach (at w : ℕ) : Type 0 where
+  pub narrow : w ≤ 32
+  pub next : at + w < 2 ^ 64
+
+-- w bits of the bytes s taken at the place `at`: v is the field there, and the next place q is where it ended
+pub record Took (s : List ℕ) (at w v q : ℕ) : Type 0 where
+  pub is : v ≡ field s at w
+  pub place : q ≡ at + w

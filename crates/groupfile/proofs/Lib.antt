@@ -1,0 +1,6 @@
+-- Laws that the proofs of several functions cite.
+pub mod Places
+pub mod Walking
+pub mod Verdicts
+pub mod Reading
+pub mod ReadAnswers

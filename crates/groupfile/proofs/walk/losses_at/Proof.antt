@@ -1,0 +1,80 @@
+-- `groupfile::walk::losses_at` meets its contract. The invariant: the sums so far and those of the claims to come are the sums
+-- of all. The measure is the claims to come. Assumes nothing.
+use mathlib.Core.Path.{_≡_, sym, ap, _∙_}
+use Prim.Native.Nat.{ℕ, _+_, _-_, _*_, _≤_}
+use native.Mathlib.Omega.{arith}
+use borrow.Author.Needs.{needs}
+use Rattle.plan.specs.Field.{field}
+use Rattle.plan.specs.Losses.{limitedTo}
+use Rattle.plan.proofs.Fields.{field-lt}
+use Rattle.plan.proofs.Sizes.{limited-le}
+use Rattle.groupfile.proofs.Walking.{Summing, summing-starts, summing-taken, summing-ends}
+use Rattle.groupfile.proofs.walk.losses_at.Statement.{statement}
+use Rattle.groupfile.proofs.walk.losses_at.Tie as tie
+
+abbrev Inv-loop : tie.InvT-loop
+Inv-loop file count limit total₀ limited₀ next₀ i₀ total limited next i =
+    Summing file (next₀ .at) count limit i (next .at) total limited
+
+abbrev μ-loop : tie.MeasureT-loop
+μ-loop file count limit total₀ limited₀ next₀ i₀ total limited next i = count - i
+
+loop-holds : tie.Need-loop-holds Inv-loop μ-loop
+loop-holds c = let a = c .before .args in summing-starts (a .file .now) (a .place .at) (a .count) (a .limit)
+
+take-requires : tie.Need-take-requires Inv-loop μ-loop
+take-requires c κs = omega arith
+
+add-total : tie.Need-add-total Inv-loop μ-loop
+add-total c =
+    let l = c .before .before .before .loop in
+    let f = c .before .before .before .before .before .args .file .now in
+    omega (arith, field-lt f (l .next .at) 20, c .before .take .ensures .is)
+
+limited-to-requires : tie.Need-limited-to-requires Inv-loop μ-loop
+limited-to-requires c κs = search needs
+
+add-limited : tie.Need-add-limited Inv-loop μ-loop
+add-limited c =
+    let e = c .before .before .before .before .before .before .args in
+    let l = c .before .before .before .before .loop in
+    let v = c .before .before .take in
+    omega (
+      arith,
+      field-lt (e .file .now) (l .next .at) 20,
+      v .ensures .is,
+      c .limited-to .ensures,
+      limited-le (e .limit) (v .result .value),
+    )
+
+add-i : tie.Need-add-i Inv-loop μ-loop
+add-i c = omega arith
+
+loop-less : tie.Need-loop-less Inv-loop μ-loop
+loop-less c = omega arith
+
+loop-again : tie.Need-loop-again Inv-loop μ-loop
+loop-again c =
+    let h = c .before .before .before .before in
+    summing-taken (h .before .loop .inv) (h .loop-test .taken) (c .before .before .before .take .ensures) (c .before .limited-to .ensures)
+
+returns : tie.Need-returns Inv-loop μ-loop
+returns c =
+    let e = summing-ends (c .before .loop .inv) (c .loop-test .left) in
+    record { total = e .0; limited = e .1 }
+
+pub losses-at-spec : {M : Type 1} → statement M
+losses-at-spec =
+    tie.close
+    (tie.spec
+    Inv-loop
+    μ-loop
+    loop-holds
+    take-requires
+    add-total
+    limited-to-requires
+    add-limited
+    add-i
+    loop-less
+    loop-again
+    returns)
