@@ -4,3 +4,7 @@ pub mod Walking
 pub mod Verdicts
 pub mod Reading
 pub mod ReadAnswers
+pub mod Puts
+pub mod PutFile
+pub mod Rests
+pub mod WriteQuestions

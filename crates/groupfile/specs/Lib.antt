@@ -4,3 +4,4 @@ pub mod Head
 pub mod Walks
 pub mod Gate
 pub mod Read
+pub mod Write

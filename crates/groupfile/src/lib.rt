@@ -4,3 +4,4 @@ pub mod gate;
 pub mod header;
 pub mod reader;
 pub mod walk;
+pub mod writer;

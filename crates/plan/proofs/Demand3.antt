@@ -35,7 +35,7 @@ use Rattle.plan.proofs.Sizes.{GroupBounds, group-bounds, length-losses,
 
 -- ---- numbers of 32 bits in a buffer
 
-fitting-map : {A : Type 0} (w : ℕ) (f : A → ℕ) → ((x : A) → f x < 2 ^ w) → (l : List A) → Fitting (slots w (map f l))
+pub fitting-map : {A : Type 0} (w : ℕ) (f : A → ℕ) → ((x : A) → f x < 2 ^ w) → (l : List A) → Fitting (slots w (map f l))
 fitting-map w f h [] = tt
 fitting-map w f h (x ∷ xs) = (h x, fitting-map w f h xs)
 

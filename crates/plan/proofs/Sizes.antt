@@ -200,7 +200,7 @@ module _ (h : Header) (rs : List Losses) (b : GroupBounds h rs) where
         (omega (arith, b .limited)) SX-le
 
     -- M + Q + n × c × K, for any K up to LG
-    inner-le : (k : ℕ) → k ≤ LG h rs → m + excessCharge h rs + length rs * h .conversion * k ≤ 859831500000 * length rs
+    pub inner-le : (k : ℕ) → k ≤ LG h rs → m + excessCharge h rs + length rs * h .conversion * k ≤ 859831500000 * length rs
     inner-le k hk =
         let e : length rs * h .expense ≤ length rs * 1048575 = mul-le-mul-left (length rs) (omega (arith, b .expense)) in
         let ck : h .conversion * k ≤ 2000 * 396361350 = mul-le-mul (b .sound .conversion-most) (le-trans hk LG-le) in
@@ -251,20 +251,27 @@ module _ (h : Header) (rs : List Losses) (b : GroupBounds h rs) where
         (subst (λ (x : ℕ). Within (x * billedPremium h rs r) a (5000000 * length rs)) d (premium-within r))
         (omega (arith, n, b .sound .risks))
 
-  -- Table's numerators in thousandths, with half the divisor, for r up to 600
+  -- Table's numerators, for r up to 600
   module _ (r : ℕ) (hr : r ≤ 600) where
     product : length rs * SA rs ≤ 255 * 16845357375
     product = let sa : SA rs ≤ 16845357375 = omega (arith, sa-le, b .risks) in mul-le-mul (b .risks) sa
 
-    pub charge-lt : 1000 * chargeSum rs r + 50 * length rs * SA rs < 2 ^ 63
+    pub charge-le : chargeSum rs r ≤ 100 * length rs * SA rs
     unfolding chargeSum
-    charge-lt =
+    charge-le =
         let a = sum-le (λ x. above (100 * length rs * x .limited) (r * SA rs)) (λ x. 100 * length rs * x .limited)
         (λ x. sub-le _ _) rs in
-        omega (arith, a, sum-mul (100 * length rs) (λ (x : Losses). x .limited) rs, product)
+        omega (arith, a, sum-mul (100 * length rs) (λ (x : Losses). x .limited) rs)
+
+    pub savings-le : savingsSum rs r ≤ 600 * length rs * SA rs
+    unfolding savingsSum
+    savings-le =
+        let a = sum-le (λ x. below (100 * length rs * x .limited) (r * SA rs)) (λ x. r * SA rs) (λ x. sub-le _ _) rs in
+        omega (arith, a, sum-const (r * SA rs) rs, mul-le-mul-right (length rs * SA rs) hr)
+
+    -- in thousandths, with half the divisor
+    pub charge-lt : 1000 * chargeSum rs r + 50 * length rs * SA rs < 2 ^ 63
+    charge-lt = omega (arith, charge-le, product)
 
     pub savings-lt : 1000 * savingsSum rs r + 50 * length rs * SA rs < 2 ^ 63
-    unfolding savingsSum
-    savings-lt =
-        let a = sum-le (λ x. below (100 * length rs * x .limited) (r * SA rs)) (λ x. r * SA rs) (λ x. sub-le _ _) rs in
-        omega (arith, a, sum-const (r * SA rs) rs, product, mul-le-mul hr product)
+    savings-lt = omega (arith, savings-le, product)

@@ -1,0 +1,107 @@
+-- Table's numbers as the code has them are those of the file's group: the numerators, the divisor, and the bounds within which
+-- they are computed. Assumes nothing.
+use mathlib.Core.Path.{_≡_, refl, sym, ap, ap₂, _∙_, subst, subst₂}
+use mathlib.Core.List.{List, [], _∷_, map}
+use Prim.Native.Nat.{ℕ, _+_, _*_, _^_, _≤_, _<_}
+use native.Mathlib.Nat.{mul-le-mul, mul-pos}
+use native.Mathlib.Omega.{arith}
+use borrow.Author.Tests.{leb-true, le-leb, lt-leb}
+use lib.ListN.{length}
+use Rattle.plan.specs.Arithmetic.{sumOf, above, below, nearest}
+use Rattle.plan.specs.Header.{headerOf, riskCount}
+use Rattle.plan.specs.Losses.{Losses, lossesIn, SA}
+use Rattle.plan.specs.Questions.{Verdict, passed, failed, firstNo, lossQuestions, question14}
+use Rattle.plan.specs.Table.{chargeSum, savingsSum, charge, savings}
+use Rattle.plan.specs.Calls.{Answer, refused, given, Tabled, table}
+use Rattle.plan.proofs.Sums.{sum-map}
+use Rattle.plan.proofs.Questions.{yes-to, loss-file, file-sound, gate-refuses, last-refuses, last-gives}
+use Rattle.plan.proofs.Sizes.{GroupBounds, group-bounds, length-losses, charge-le, savings-le, charge-lt, savings-lt}
+use Rattle.rating.specs.Tables.{ThousandthsBounds}
+use Rattle.rating.proofs.Group.{limitedsOf}
+
+-- ---- the answer
+
+module _ (s : List ℕ) (r : ℕ) where
+  abbrev ratios : Tabled
+  ratios = record { charge = charge (lossesIn s) r; savings = savings (lossesIn s) r }
+
+  pub gate-failed : {k : ℕ} → firstNo (lossQuestions s) ≡ failed k → refused k ≡ table s r
+  unfolding table
+  gate-failed e = sym (gate-refuses (lossQuestions s) (question14 r ∷ []) ratios e)
+
+  pub ratio-too-large : firstNo (lossQuestions s) ≡ passed → 600 < r → refused 14 ≡ table s r
+  unfolding table
+  ratio-too-large e h = sym (last-refuses (lossQuestions s) 14 ratios e (lt-leb _ _ h))
+
+  pub tabled : firstNo (lossQuestions s) ≡ passed → r ≤ 600 → given ratios ≡ table s r
+  unfolding table
+  tabled e h = sym (last-gives (lossQuestions s) 14 ratios e (le-leb _ _ h))
+
+-- ---- the numbers, of n risks with limited losses sa in all
+
+module _ (s : List ℕ) (passes : firstNo (lossQuestions s) ≡ passed) (r : ℕ) (hr : r ≤ 600) {n sa : ℕ} {limiteds : List ℕ}
+    (n-is : n ≡ riskCount s) (sa-is : sa ≡ SA (lossesIn s)) (each : limiteds ≡ limitedsOf s) where
+  bounds : GroupBounds (headerOf s) (lossesIn s)
+  bounds = group-bounds s (file-sound s (loss-file s passes))
+
+  count : n ≡ length (lossesIn s)
+  count = n-is ∙ sym (length-losses s)
+
+  some : 1 ≤ SA (lossesIn s)
+  some = leb-true _ _ (yes-to 10 (lossQuestions s) refl passes)
+
+  half-is : 50 * n * sa ≡ 50 * length (lossesIn s) * SA (lossesIn s)
+  half-is = ap₂ (λ (x y : ℕ). 50 * x * y) count sa-is
+
+  divisor-is : 2 * (50 * n * sa) ≡ 100 * length (lossesIn s) * SA (lossesIn s)
+  divisor-is = omega (arith, half-is)
+
+  pub risks-few : n ≤ 255
+  risks-few = omega (arith, count, bounds .risks)
+
+  pub mark-fits : r * sa < 2 ^ 44
+  mark-fits =
+      let most : sa ≤ 16845357375 = omega (arith, sa-is, bounds .limited, bounds .total, bounds .risks) in
+      omega (arith, mul-le-mul hr most)
+
+  pub half-fits : 50 * n * sa < 2 ^ 64
+  half-fits = omega (arith, half-is, charge-lt (headerOf s) (lossesIn s) bounds r hr)
+
+  pub charge-sum : sumOf (λ a. above (100 * n * a) (r * sa)) limiteds ≡ chargeSum (lossesIn s) r
+  unfolding chargeSum
+  charge-sum =
+      (λ i. sumOf (λ a. above (100 * count i * a) (r * sa-is i)) (each i))
+      ∙ sum-map (λ a. above (100 * length (lossesIn s) * a) (r * SA (lossesIn s))) (λ (x : Losses). x .limited) (lossesIn s)
+
+  pub savings-sum : sumOf (λ a. below (100 * n * a) (r * sa)) limiteds ≡ savingsSum (lossesIn s) r
+  unfolding savingsSum
+  savings-sum =
+      (λ i. sumOf (λ a. below (100 * count i * a) (r * sa-is i)) (each i))
+      ∙ sum-map (λ a. below (100 * length (lossesIn s) * a) (r * SA (lossesIn s))) (λ (x : Losses). x .limited) (lossesIn s)
+
+  half-some : 0 < 50 * n * sa
+  half-some =
+      let p : 0 < length (lossesIn s) * SA (lossesIn s) = mul-pos (bounds .sound .risks) some in
+      omega (arith, half-is, p)
+
+  pub charge-bounds : {x : ℕ} → x ≡ chargeSum (lossesIn s) r → ThousandthsBounds x (50 * n * sa)
+  charge-bounds {x} e = record {
+    some = half-some;
+    fits = omega (arith, e, half-is, charge-lt (headerOf s) (lossesIn s) bounds r hr);
+    most = omega (arith, e, divisor-is, charge-le (headerOf s) (lossesIn s) bounds r hr);
+  }
+
+  pub savings-bounds : {x : ℕ} → x ≡ savingsSum (lossesIn s) r → ThousandthsBounds x (50 * n * sa)
+  savings-bounds {x} e = record {
+    some = half-some;
+    fits = omega (arith, e, half-is, savings-lt (headerOf s) (lossesIn s) bounds r hr);
+    most = omega (arith, e, divisor-is, savings-le (headerOf s) (lossesIn s) bounds r hr);
+  }
+
+  pub charge-is : {x : ℕ} → x ≡ chargeSum (lossesIn s) r → nearest (1000 * x) (2 * (50 * n * sa)) ≡ charge (lossesIn s) r
+  unfolding charge
+  charge-is e = ap₂ (λ (x d : ℕ). nearest (1000 * x) d) e divisor-is
+
+  pub savings-is : {x : ℕ} → x ≡ savingsSum (lossesIn s) r → nearest (1000 * x) (2 * (50 * n * sa)) ≡ savings (lossesIn s) r
+  unfolding savings
+  savings-is e = ap₂ (λ (x d : ℕ). nearest (1000 * x) d) e divisor-is

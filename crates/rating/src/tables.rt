@@ -1,0 +1,56 @@
+// Table: charge and savings of a file's group at an entry ratio.
+ghost use mathlib.Core.Path.{_≡_};
+ghost use Prim.Native.Nat.{_*_};
+ghost use Rattle.plan.specs.Arithmetic.{nearest};
+ghost use Rattle.plan.specs.Calls as plan;
+ghost use Rattle.rating.specs.Tables.{ThousandthsBounds, ratiosAre};
+use crate::gates::open_losses;
+use crate::steps::spread_of;
+use groupfile::header::Verdict;
+
+// Charge and savings, in thousandths.
+pub struct Ratios {
+    pub charge: u32,
+    pub savings: u32,
+}
+
+// What Table gives, or the number of the first question that failed.
+pub enum Tabled {
+    Given(Ratios),
+    Refused(u32),
+}
+
+// Thousandths of a ratio to the nearest, an exact half upward; `half` is half of what it is divided by.
+fn thousandths_of(x: u64, half: u64) -> u32
+    requires { ⌜ ThousandthsBounds x half ⌝ }
+    ensures { λ r. ⌜ r ≡ nearest (1000 * x) (2 * half) ⌝ }
+{
+    ((1000 * x + half) / (2 * half)) as u32
+}
+
+// Table of a file of whatever bytes at an entry ratio of whatever hundredths.
+pub fn table(file: &[u8], r: u32) -> Tabled
+    ensures { λ t. ⌜ ratiosAre t ≡ plan.table (now (file .entry)) r ⌝ }
+{
+    let opened = open_losses(file);
+    let verdict = opened.verdict;
+    let head = opened.head;
+    let losses = opened.losses;
+    match verdict {
+        Verdict::Failed(k) => Tabled::Refused(k),
+        Verdict::Passed => {
+            if r > 600 {
+                return Tabled::Refused(14);
+            }
+            let n = head.risks;
+            let limited = losses.limited;
+            let limiteds = losses.limiteds;
+            let mark = r as u64 * limited;
+            let sums = spread_of(limiteds, n, 100 * n as u64, mark, mark);
+            let half = 50 * n as u64 * limited;
+            let charge = thousandths_of(sums.above, half);
+            let savings = thousandths_of(sums.below, half);
+            Tabled::Given(Ratios { charge, savings })
+        }
+    }
+}
