@@ -1,0 +1,184 @@
+-- From what a call of the libraries gives to what its exported form gives: a refusal keeps every lent number, a result sets them.
+-- Assumes nothing.
+use mathlib.Core.Path.{_≡_, refl, sym, ap, _∙_, subst}
+use mathlib.Core.List.{List}
+use Prim.Native.Nat.{ℕ}
+use native.Mathlib.Omega.{arith}
+use lib.IntN.{ℤ, pos}
+use lib.ListN.{length}
+use Rattle.plan.specs.Header as plan
+use Rattle.plan.specs.Demand3.{Demand3}
+use Rattle.plan.specs.Calls.{Answer, refused, given, giving, numberAfter, bufferAfter, Rated, rate, Demand3After, Tabled, table}
+use Rattle.plan.specs.Calls.{Group, read, write}
+use Rattle.groupfile.specs.Values.{headerIs}
+use Rattle.groupfile.specs.Read.{Heading, headingOf, headingIs, ReadSays}
+use Rattle.groupfile.specs.Write.{lengthIs, WriteSays}
+use Rattle.groupfile.specs.declared.reader.Heading as reading
+use Rattle.groupfile.specs.declared.reader.GroupRead.the-variants as reads
+use Rattle.groupfile.specs.declared.writer.Written.the-variants as writes
+use Rattle.rating.specs.Rates.{Figures, figuresOf, figuresAre, RateSays, Demanded}
+use Rattle.rating.specs.Tables.{ratiosAre}
+use Rattle.rating.specs.declared.rates.Figures as rating
+use Rattle.rating.specs.declared.tables.Ratios as tabling
+use Rattle.rating.specs.declared.rates.Rated.the-variants as rates
+use Rattle.rating.specs.declared.tables.Tabled.the-variants as tables
+use Rattle.retro_c.specs.Exported.{codeOf, Numbers, numbers, BasicAfter, RateExported, TableExported, GroupIs, ReadExported}
+use Rattle.retro_c.specs.Exported.{WriteExported}
+use Rattle.retro_c.specs.declared.RetroGroup.{RetroGroup}
+
+-- ---- a part of an answer tells the answer
+
+giving-refused : {A B : Type 0} (f : A → B) (a : Answer A) {k : ℕ} → refused k ≡ giving f a → a ≡ refused k
+giving-refused f (refused j) e = cc
+giving-refused f (given a) e = cc
+
+-- what was given, of which a part is known
+record Gave {A B : Type 0} (f : A → B) (a : Answer A) (b : B) : Type 0 where
+  value : A
+  is : a ≡ given value
+  part : f value ≡ b
+
+giving-given : {A B : Type 0} (f : A → B) (a : Answer A) {b : B} → given b ≡ giving f a → Gave f a b
+giving-given f (refused j) {b} e = let z : _≡_ {A = ℕ} 0 1 = cc in absurd (omega arith)
+giving-given f (given a) {b} e = record { value = a; is = refl; part = cc }
+
+-- ---- Rate
+
+module _ (s old new : List ℕ) where
+  abbrev rated : Answer Rated
+  rated = rate s (length old)
+
+  pub rate-refused : (k : ℕ) (lent : Numbers) → RateSays s old (rates.Refused k) new → RateExported s old k lent lent new
+  rate-refused k lent x =
+      let e : rated ≡ refused k = giving-refused figuresOf rated (x .answer) in
+      record {
+        code-is = sym (ap codeOf e);
+        risks-are = sym (ap (λ (a : Answer Rated). numberAfter (λ r. r .risks) a (lent .risks)) e);
+        basic-is = subst (λ (a : Answer Rated). BasicAfter a (lent .basic) (lent .basic)) (sym e) refl;
+        excess-is = sym (ap (λ (a : Answer Rated). numberAfter (λ r. r .excess) a (lent .excess)) e);
+        billed-is = sym (ap (λ (a : Answer Rated). numberAfter (λ r. r .billed) a (lent .billed)) e);
+        buffer-is = x .buffer;
+      }
+
+  -- a refusal has no demand
+  pub none-demanded : (k m q b : ℕ) → RateSays s old (rates.Refused k) new → Demand3After rated s m q b new
+  none-demanded k m q b x =
+      subst (λ (a : Answer Rated). Demand3After a s m q b new) (sym (giving-refused figuresOf rated (x .answer))) tt
+
+  module _ (g : rating.Figures) (x : RateSays s old (rates.Given g) new) where
+    gave : Gave figuresOf rated (record { risks = g .risks; basic = pos (g .basic); excess = g .excess; billed = g .billed })
+    gave = giving-given figuresOf rated (x .answer)
+
+    pub rate-given : (lent : Numbers) → RateExported s old 0 lent (numbers (g .risks) (g .basic) (g .excess) (g .billed)) new
+    rate-given lent =
+        let e = gave .is in
+        let f = gave .part in
+        record {
+          code-is = sym (ap codeOf e);
+          risks-are =
+              sym (ap (λ (a : Answer Rated). numberAfter (λ r. r .risks) a (lent .risks)) e ∙ ap (λ (y : Figures). y .risks) f);
+          basic-is = subst (λ (a : Answer Rated). BasicAfter a (lent .basic) (g .basic)) (sym e) (sym (ap (λ (y : Figures). y .basic) f));
+          excess-is =
+              sym (ap (λ (a : Answer Rated). numberAfter (λ r. r .excess) a (lent .excess)) e ∙ ap (λ (y : Figures). y .excess) f);
+          billed-is =
+              sym (ap (λ (a : Answer Rated). numberAfter (λ r. r .billed) a (lent .billed)) e ∙ ap (λ (y : Figures). y .billed) f);
+          buffer-is = x .buffer;
+        }
+
+    pub all-demanded : Demanded (rates.Given g) s new → Demand3After rated s (g .basic) (g .excess) (g .billed) new
+    all-demanded d = subst (λ (a : Answer Rated). Demand3After a s (g .basic) (g .excess) (g .billed) new) (sym (gave .is)) d
+
+-- ---- Table
+
+module _ (s : List ℕ) (r : ℕ) where
+  pub table-refused : (k charge savings : ℕ) → ratiosAre (tables.Refused k) ≡ table s r
+      → TableExported s r k charge charge savings savings
+  table-refused k charge savings e = record {
+    code-is = ap codeOf e;
+    charge-is = ap (λ (a : Answer Tabled). numberAfter (λ t. t .charge) a charge) e;
+    savings-is = ap (λ (a : Answer Tabled). numberAfter (λ t. t .savings) a savings) e;
+  }
+
+  pub table-given : (t : tabling.Ratios) (charge savings : ℕ) → ratiosAre (tables.Given t) ≡ table s r
+      → TableExported s r 0 charge (t .charge) savings (t .savings)
+  table-given t charge savings e = record {
+    code-is = ap codeOf e;
+    charge-is = ap (λ (a : Answer Tabled). numberAfter (λ t. t .charge) a charge) e;
+    savings-is = ap (λ (a : Answer Tabled). numberAfter (λ t. t .savings) a savings) e;
+  }
+
+-- ---- Read
+
+-- the ten numbers of a refusal, and of a heading
+abbrev pub refusal : ℕ → RetroGroup
+refusal k = record {
+  refused = k;
+  risks = 0;
+  «loss_limit» = 0;
+  «standard_premium» = 0;
+  expense = 0;
+  conversion = 0;
+  tax = 0;
+  «mark_kind» = 0;
+  «maximum_mark» = 0;
+  «minimum_mark» = 0;
+}
+
+abbrev pub heading : ℕ → plan.Header → RetroGroup
+heading n h = record {
+  refused = 0;
+  risks = n;
+  «loss_limit» = h .lossLimit;
+  «standard_premium» = h .standardPremium;
+  expense = h .expense;
+  conversion = h .conversion;
+  tax = h .tax;
+  «mark_kind» = h .markKind;
+  «maximum_mark» = h .maximumMark;
+  «minimum_mark» = h .minimumMark;
+}
+
+module _ (s oldCounts oldClaims counts claims : List ℕ) where
+  abbrev was-read : Answer Group
+  was-read = read s (length oldCounts) (length oldClaims)
+
+  pub read-refused : (k : ℕ) → ReadSays s oldCounts oldClaims (reads.Refused k) counts claims
+      → ReadExported s oldCounts oldClaims (refusal k) counts claims
+  read-refused k x = record {
+    group-is = subst (λ (a : Answer Group). GroupIs a (refusal k)) (sym (giving-refused headingOf was-read (x .answer))) refl;
+    counts-are = x .counts-after;
+    claims-are = x .claims-after;
+  }
+
+  pub read-given : (h : reading.Heading) → ReadSays s oldCounts oldClaims (reads.Given h) counts claims
+      → ReadExported s oldCounts oldClaims (heading (h .risks) (headerIs (h .values))) counts claims
+  read-given h x =
+      let gave = giving-given headingOf was-read (x .answer) in
+      record {
+        group-is =
+            subst (λ (a : Answer Group). GroupIs a (heading (h .risks) (headerIs (h .values)))) (sym (gave .is))
+            (λ i. heading (sym (gave .part) i .risks) (sym (gave .part) i .header));
+        counts-are = x .counts-after;
+        claims-are = x .claims-after;
+      }
+
+-- ---- Write
+
+module _ (g : Group) (old new : List ℕ) where
+  pub write-refused : (k lent : ℕ) → WriteSays g old (writes.Refused k) new → WriteExported g old k lent lent new
+  write-refused k lent x =
+      let e = giving-refused length (write g (length old)) (x .answer) in
+      record {
+        code-is = sym (ap codeOf e);
+        length-is = sym (ap (λ (a : Answer (List ℕ)). numberAfter length a lent) e);
+        buffer-is = x .buffer;
+      }
+
+  pub write-given : (n lent : ℕ) → WriteSays g old (writes.Length n) new → WriteExported g old 0 lent n new
+  write-given n lent x =
+      let gave = giving-given length (write g (length old)) (x .answer) in
+      record {
+        code-is = sym (ap codeOf (gave .is));
+        length-is = sym (ap (λ (a : Answer (List ℕ)). numberAfter length a lent) (gave .is) ∙ gave .part);
+        buffer-is = x .buffer;
+      }

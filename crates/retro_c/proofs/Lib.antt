@@ -1,0 +1,2 @@
+-- Laws that the proofs of the exported calls cite.
+pub mod Exports

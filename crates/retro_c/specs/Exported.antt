@@ -1,0 +1,88 @@
+-- What the exported calls say, as equations with document 01: the answer's number, each lent number and each lent buffer.
+use mathlib.Core.Path.{_≡_}
+use mathlib.Core.List.{List}
+use Prim.Native.Nat.{ℕ}
+use lib.IntN.{ℤ, pos}
+use lib.ListN.{length}
+use Rattle.plan.specs.Header as plan
+use Rattle.plan.specs.Calls.{Answer, refused, given, numberAfter, Rated, rate, rateBuffer, Tabled, table, Group, read, readCounts}
+use Rattle.plan.specs.Calls.{readClaims, write, writeBuffer, writeLength}
+use Rattle.retro_c.specs.declared.RetroGroup.{RetroGroup}
+
+-- 0 where a call has a result, else the number of the first No
+abbrev pub codeOf : {A : Type 0} → Answer A → ℕ
+codeOf (refused k) = k
+codeOf (given a) = 0
+
+-- the four numbers lent to Rate: n, M, Q and the sum billed
+pub record Numbers : Type 0 where
+  pub risks : ℕ
+  pub basic : ℕ
+  pub excess : ℕ
+  pub billed : ℕ
+
+abbrev pub numbers : ℕ → ℕ → ℕ → ℕ → Numbers
+numbers n m q b = record { risks = n; basic = m; excess = q; billed = b }
+
+-- M after the call: the whole number of step 4, or as it was
+abbrev pub BasicAfter : Answer Rated → ℕ → ℕ → Type 0
+BasicAfter (refused k) old new = new ≡ old
+BasicAfter (given r) old new = pos new ≡ r .basic
+
+-- a call of retro_rate on the file s with a buffer that held `old` and the numbers `before`, and what is there after it
+pub record RateExported (s old : List ℕ) (code : ℕ) (before after : Numbers) (new : List ℕ) : Type 0 where
+  pub code-is : code ≡ codeOf (rate s (length old))
+  pub risks-are : after .risks ≡ numberAfter (λ r. r .risks) (rate s (length old)) (before .risks)
+  pub basic-is : BasicAfter (rate s (length old)) (before .basic) (after .basic)
+  pub excess-is : after .excess ≡ numberAfter (λ r. r .excess) (rate s (length old)) (before .excess)
+  pub billed-is : after .billed ≡ numberAfter (λ r. r .billed) (rate s (length old)) (before .billed)
+  pub buffer-is : new ≡ rateBuffer s old
+
+-- a call of retro_table on the file s at r
+pub record TableExported (s : List ℕ) (r code charge charge′ savings savings′ : ℕ) : Type 0 where
+  pub code-is : code ≡ codeOf (table s r)
+  pub charge-is : charge′ ≡ numberAfter (λ t. t .charge) (table s r) charge
+  pub savings-is : savings′ ≡ numberAfter (λ t. t .savings) (table s r) savings
+
+-- the ten numbers of Read's answer
+abbrev pub GroupIs : Answer Group → RetroGroup → Type 0
+GroupIs (refused k) r =
+    r
+    ≡ record {
+      refused = k;
+      risks = 0;
+      «loss_limit» = 0;
+      «standard_premium» = 0;
+      expense = 0;
+      conversion = 0;
+      tax = 0;
+      «mark_kind» = 0;
+      «maximum_mark» = 0;
+      «minimum_mark» = 0;
+    }
+GroupIs (given g) r =
+    r
+    ≡ record {
+      refused = 0;
+      risks = length (g .counts);
+      «loss_limit» = g .header .lossLimit;
+      «standard_premium» = g .header .standardPremium;
+      expense = g .header .expense;
+      conversion = g .header .conversion;
+      tax = g .header .tax;
+      «mark_kind» = g .header .markKind;
+      «maximum_mark» = g .header .maximumMark;
+      «minimum_mark» = g .header .minimumMark;
+    }
+
+-- a call of retro_read on the file s with buffers that held `oldCounts` and `oldClaims`
+pub record ReadExported (s oldCounts oldClaims : List ℕ) (r : RetroGroup) (counts claims : List ℕ) : Type 0 where
+  pub group-is : GroupIs (read s (length oldCounts) (length oldClaims)) r
+  pub counts-are : counts ≡ readCounts s oldCounts oldClaims
+  pub claims-are : claims ≡ readClaims s oldCounts oldClaims
+
+-- a call of retro_write with the values g, a buffer that held `old` and a lent length
+pub record WriteExported (g : Group) (old : List ℕ) (code length₀ length₁ : ℕ) (new : List ℕ) : Type 0 where
+  pub code-is : code ≡ codeOf (write g (length old))
+  pub length-is : length₁ ≡ writeLength g (length old) length₀
+  pub buffer-is : new ≡ writeBuffer g old

@@ -1,0 +1,150 @@
+// The calls for C and for test programs: Rate, Table, Read and Write on numbers and slices, one match each. What a call gives
+// is said in include/retro.h; each contract here is an equation with document 01, refusals included.
+ghost use mathlib.Core.Path.{_≡_};
+ghost use lib.ListN.{length};
+ghost use Rattle.plan.specs.Calls.{rate, Demand3After};
+ghost use Rattle.groupfile.specs.Write.{groupOf};
+ghost use Rattle.retro_c.specs.Exported.{numbers, RateExported, TableExported, ReadExported, WriteExported};
+use groupfile::header::Header;
+use groupfile::reader::GroupRead;
+use groupfile::writer::Written;
+use rating::rates::Rated;
+use rating::tables::Tabled;
+
+// Read's answer: 0 or the refusal, n, and the header values; where it is a refusal all else is 0.
+#[repr(C)]
+pub struct RetroGroup {
+    pub refused: u32,
+    pub risks: u32,
+    pub loss_limit: u32,
+    pub standard_premium: u32,
+    pub expense: u32,
+    pub conversion: u32,
+    pub tax: u32,
+    pub mark_kind: u32,
+    pub maximum_mark: u32,
+    pub minimum_mark: u32,
+}
+
+// Rate: 0 and n, M, Q, the sum billed and each premium; or the number of the first question that failed.
+#[no_mangle]
+pub extern "C" fn retro_rate(
+    file: &[u8],
+    premiums: &mut [u8],
+    risks: &mut u32,
+    basic: &mut u64,
+    excess: &mut u64,
+    billed: &mut u64,
+) -> u32
+    ensures says {
+        λ code. ⌜
+            RateExported (now (file .entry)) (now (premiums .entry)) code
+            (numbers (now (risks .entry)) (now (basic .entry)) (now (excess .entry)) (now (billed .entry)))
+            (numbers (now (risks .exit)) (now (basic .exit)) (now (excess .exit)) (now (billed .exit)))
+            (now (premiums .exit))
+        ⌝
+    }
+    ensures demand3 {
+        λ code. ⌜
+            Demand3After (rate (now (file .entry)) (length (now (premiums .entry)))) (now (file .entry))
+            (now (basic .exit)) (now (excess .exit)) (now (billed .exit)) (now (premiums .exit))
+        ⌝
+    }
+{
+    match rating::rates::rate(file, premiums) {
+        Rated::Refused(k) => k,
+        Rated::Given(g) => {
+            *risks = g.risks;
+            *basic = g.basic;
+            *excess = g.excess;
+            *billed = g.billed;
+            0
+        }
+    }
+}
+
+// Table: 0 and charge and savings in thousandths; or the number of the first question that failed.
+#[no_mangle]
+pub extern "C" fn retro_table(file: &[u8], entry_ratio: u32, charge: &mut u32, savings: &mut u32) -> u32
+    ensures {
+        λ code. ⌜
+            TableExported (now (file .entry)) «entry_ratio» code
+            (now (charge .entry)) (now (charge .exit)) (now (savings .entry)) (now (savings .exit))
+        ⌝
+    }
+{
+    match rating::tables::table(file, entry_ratio) {
+        Tabled::Refused(k) => k,
+        Tabled::Given(t) => {
+            *charge = t.charge;
+            *savings = t.savings;
+            0
+        }
+    }
+}
+
+// Read: the header, the counts and the claims; or the number of the first question that failed.
+#[no_mangle]
+pub extern "C" fn retro_read(file: &[u8], counts: &mut [u8], claims: &mut [u32]) -> RetroGroup
+    ensures {
+        λ r. ⌜
+            ReadExported (now (file .entry)) (now (counts .entry)) (now (claims .entry)) r
+            (now (counts .exit)) (now (claims .exit))
+        ⌝
+    }
+{
+    match groupfile::reader::read(file, counts, claims) {
+        GroupRead::Refused(k) => RetroGroup {
+            refused: k,
+            risks: 0,
+            loss_limit: 0,
+            standard_premium: 0,
+            expense: 0,
+            conversion: 0,
+            tax: 0,
+            mark_kind: 0,
+            maximum_mark: 0,
+            minimum_mark: 0,
+        },
+        GroupRead::Given(h) => {
+            let v = h.values;
+            RetroGroup {
+                refused: 0,
+                risks: h.risks,
+                loss_limit: v.loss_limit,
+                standard_premium: v.standard_premium,
+                expense: v.expense,
+                conversion: v.conversion,
+                tax: v.tax,
+                mark_kind: v.mark_kind,
+                maximum_mark: v.maximum_mark,
+                minimum_mark: v.minimum_mark,
+            }
+        }
+    }
+}
+
+// Write: 0, the file's length and its bytes; or the number of the first question that failed.
+#[no_mangle]
+pub extern "C" fn retro_write(
+    header: Header,
+    counts: &[u8],
+    claims: &[u32],
+    file: &mut [u8],
+    length: &mut usize,
+) -> u32
+    ensures {
+        λ code. ⌜
+            WriteExported (groupOf header (now (counts .entry)) (now (claims .entry))) (now (file .entry)) code
+            (now (length .entry)) (now (length .exit)) (now (file .exit))
+        ⌝
+    }
+{
+    match groupfile::writer::write(header, counts, claims, file) {
+        Written::Refused(k) => k,
+        Written::Length(n) => {
+            *length = n;
+            0
+        }
+    }
+}
