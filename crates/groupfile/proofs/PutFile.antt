@@ -1,9 +1,9 @@
--- The file that Write leaves. Its fields lie in its bytes and its fill is 0, so the first bytes are the file's; every later bit
--- is kept, so the later bytes are. And its width: a count for each risk, and as many claims as the counts add to. Assumes
--- nothing.
+-- The file that Write leaves. Its fields lie in its bytes and its fill is 0, so the first bytes are the file's;
+-- every later bit is kept, so the later bytes are. And its width: a count for each risk, and as many claims as
+-- the counts add to. Assumes nothing.
 use mathlib.Core.Path.{_≡_, refl, sym, ap, ap₂, _∙_, subst}
 use mathlib.Core.List.{List, [], _∷_, _++_}
-use Prim.Native.Nat.{ℕ, suc, _+_, _-_, _*_, _^_, _≤_, _<_}
+use Prim.Native.Nat.{ℕ, _+_, _-_, _*_, _≤_, _<_}
 use native.Mathlib.Decide.{decLt}
 use native.Mathlib.Omega.{arith}
 use borrow.Author.Tests.{leb-true}
@@ -12,12 +12,12 @@ use lib.ListN.{length, getD, take, drop, length-drop, take-append-drop, List·ge
 use lib.Seq.{length-take-le, getD-take, getD-drop, ext-getD}
 use Rattle.plan.specs.Arithmetic.{sum}
 use Rattle.plan.specs.Calls.{filled}
-use Rattle.plan.specs.Field.{bit, number, field, Slot, slot, slots, totalWidth}
+use Rattle.plan.specs.Field.{bit, field, Slot, slots, totalWidth}
 use Rattle.plan.specs.Header.{Header, headerSlots}
 use Rattle.plan.specs.File.{bytesFor, bytesOf, riskSlots, fileSlots, fileLength}
 use Rattle.plan.specs.Questions.{writeQuestions}
 use Rattle.plan.proofs.Fields.{by-cases, Bytes, field-same, field-byte, zero-bits, bit-append}
-use Rattle.plan.proofs.Written.{Laid, Fitting, width-append, width-slots, laid-same, length-bytesOf, bytesOf-unique}
+use Rattle.plan.proofs.Written.{Fitting, width-append, width-slots, laid-same, length-bytesOf, bytesOf-unique}
 use Rattle.plan.proofs.Questions.{yes-to}
 use Rattle.plan.proofs.Writable.{Writable, file-fitting, write-sound}
 use Rattle.bits.specs.Put.{Room, Put}
@@ -29,7 +29,8 @@ bytes-take : (n : ℕ) (s : List ℕ) → Bytes s → n ≤ length s → Bytes (
 bytes-take n s b h i =
     by-cases
     (λ l. subst (λ (x : ℕ). x < 256) (sym (getD-take n s i 0 l)) (b i))
-    (λ l. subst (λ (x : ℕ). x < 256) (sym (List·getD-eq-default (take n s) 0 (omega (arith, length-take-le n s h)))) (omega arith))
+    (λ l. subst (λ (x : ℕ). x < 256)
+    (sym (List·getD-eq-default (take n s) 0 (omega (arith, length-take-le n s h)))) (omega arith))
     (decLt i n)
 
 bit-take : (n : ℕ) (s : List ℕ) → n ≤ length s → (k : ℕ) → k < 8 * n → bit (take n s) k ≡ bit s k
@@ -39,9 +40,9 @@ bit-take n s h k l =
 
 -- ---- the bytes of fields that were put, with a fill of 0 after them
 
-module _ {old t new : List ℕ} {q n : ℕ} (fs : List Slot) (fitting : Fitting fs) (was : Bytes old) (is : Bytes new)
-    (wrote : Wrote old 0 fs t q) (fill : Put t q (8 * n - q) 0 new) (bytes : n ≡ bytesFor (totalWidth fs))
-    (enough : n ≤ length old) where
+module _ {old t new : List ℕ} {q n : ℕ} (fs : List Slot) (fitting : Fitting fs) (was : Bytes old)
+    (is : Bytes new) (wrote : Wrote old 0 fs t q) (fill : Put t q (8 * n - q) 0 new)
+    (bytes : n ≡ bytesFor (totalWidth fs)) (enough : n ≤ length old) where
   within : n ≤ length new
   within = omega (arith, fill .same, wrote .same)
 
@@ -67,7 +68,8 @@ module _ {old t new : List ℕ} {q n : ℕ} (fs : List Slot) (fitting : Fitting 
 
   second : drop n new ≡ drop n old
   second =
-      ext-getD 0 (drop n new) (drop n old) (omega (arith, length-drop n new, length-drop n old, fill .same, wrote .same))
+      ext-getD 0 (drop n new) (drop n old)
+      (omega (arith, length-drop n new, length-drop n old, fill .same, wrote .same))
       (λ i h. getD-drop n new i 0 ∙ later (n + i) (omega arith) ∙ sym (getD-drop n old i 0))
 
   pub file-put : new ≡ filled (bytesOf fs) old
@@ -124,6 +126,7 @@ module _ {h : Header} {counts claims out : List ℕ} {n : ℕ} (r : Ready h coun
       subst (λ (x : ℕ). x ≤ length out) (sym (r .is))
       (leb-true _ _ (yes-to 13 (writeQuestions h counts claims (length out)) refl (r .passes)))
 
+  -- 'The largest file has 40,370 bytes'
   pub ready-small : n ≤ 40370
   ready-small =
       omega (

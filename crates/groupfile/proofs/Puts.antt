@@ -1,12 +1,12 @@
--- Fields put one after another. A put changes the bits of its own field alone: so where the later fields were put too, each
--- field lies where it was put, and every bit outside of them is kept. Assumes nothing.
-use mathlib.Core.Path.{_≡_, refl, sym, ap, _∙_, subst}
+-- Fields put one after another. A put changes the bits of its own field alone: so where the later fields were
+-- put too, each field lies where it was put, and every bit outside of them is kept. Assumes nothing.
+use mathlib.Core.Path.{_≡_, refl, sym, _∙_, subst}
 use mathlib.Core.List.{List, [], _∷_, _++_}
-use Prim.Native.Nat.{ℕ, _+_, _*_, _^_, _≤_, _<_}
+use Prim.Native.Nat.{ℕ, _+_, _≤_}
 use native.Mathlib.Nat.{add-zero}
 use native.Mathlib.Omega.{arith}
 use lib.ListN.{length}
-use Rattle.plan.specs.Field.{bit, field, Slot, slot, totalWidth}
+use Rattle.plan.specs.Field.{Slot, slot}
 use Rattle.plan.proofs.Fields.{field-same}
 use Rattle.plan.proofs.Written.{Laid, Fitting, width-append, laid-append, laid-same}
 use Rattle.bits.specs.Put.{Room, Put}
@@ -23,8 +23,8 @@ room {s} {at} {w} {v} {fs} p h = record {
 }
 
 -- for those after it
-pub space-past : {s t : List ℕ} {at q w v : ℕ} {fs : List Slot} → Space s at (slot w v ∷ fs) → length t ≡ length s
-    → q ≡ at + w → Space t q fs
+pub space-past : {s t : List ℕ} {at q w v : ℕ} {fs : List Slot} → Space s at (slot w v ∷ fs)
+    → length t ≡ length s → q ≡ at + w → Space t q fs
 space-past {s} {t} {at} {q} {w} {v} {fs} p same e = record {
   within = omega (arith, p .within);
   reach = omega (arith, p .reach);
@@ -48,7 +48,8 @@ space-first fs gs p = record {
 }
 
 -- and for the second, after the first was put
-pub space-second : {s t : List ℕ} {at q : ℕ} (fs gs : List Slot) → Space s at (fs ++ gs) → Wrote s at fs t q → Space t q gs
+pub space-second : {s t : List ℕ} {at q : ℕ} (fs gs : List Slot) → Space s at (fs ++ gs) → Wrote s at fs t q
+    → Space t q gs
 space-second fs gs p x = record {
   within = omega (arith, p .within, x .same, x .place, width-append fs gs);
   reach = omega (arith, p .reach, x .place, width-append fs gs);
@@ -58,11 +59,17 @@ space-second fs gs p x = record {
 -- ---- put
 
 pub wrote-none : (s : List ℕ) (at : ℕ) → Wrote s at [] s at
-wrote-none s at = record { same = refl; place = sym (add-zero at); laid = tt; before = λ k h. refl; after = λ k h. refl }
+wrote-none s at = record {
+  same = refl;
+  place = sym (add-zero at);
+  laid = tt;
+  before = λ k h. refl;
+  after = λ k h. refl;
+}
 
 -- one, and then others
-pub wrote-more : {s t u : List ℕ} {at w v q r : ℕ} {fs : List Slot} → (q ≡ at + w) × Put s at w v t → Wrote t q fs u r
-    → Wrote s at (slot w v ∷ fs) u r
+pub wrote-more : {s t u : List ℕ} {at w v q r : ℕ} {fs : List Slot} → (q ≡ at + w) × Put s at w v t
+    → Wrote t q fs u r → Wrote s at (slot w v ∷ fs) u r
 wrote-more {s} {t} {u} {at} {w} {v} {q} {r} {fs} p x = record {
   same = x .same ∙ p .1 .same;
   place = omega (arith, x .place, p .0);
@@ -90,8 +97,8 @@ wrote-append {s} {t} {u} {at} {q} {r} fs gs x y = record {
 
 -- ---- put by a loop
 
--- the fields fs are to be put over s from `at` on, and t and the place q are what is reached: there is room for the `rest`, and
--- whoever puts it from there on has put all
+-- the fields fs are to be put over s from `at` on, and t and the place q are what is reached: there is room for
+-- the `rest`, and whoever puts it from there on has put all
 pub record Putting (s : List ℕ) (at : ℕ) (fs : List Slot) (t : List ℕ) (q : ℕ) (rest : List Slot) : Type 0 where
   pub same : length t ≡ length s
   pub space : Space t q rest
@@ -106,8 +113,8 @@ pub putting-as : {s t : List ℕ} {at q : ℕ} {fs rest rest′ : List Slot} →
 putting-as {s} {t} {at} {q} {fs} g e = subst (Putting s at fs t q) e g
 
 -- one field
-pub putting-more : {s t u : List ℕ} {at q r w v : ℕ} {fs rest : List Slot} → Putting s at fs t q (slot w v ∷ rest)
-    → (r ≡ q + w) × Put t q w v u → Putting s at fs u r rest
+pub putting-more : {s t u : List ℕ} {at q r w v : ℕ} {fs rest : List Slot}
+    → Putting s at fs t q (slot w v ∷ rest) → (r ≡ q + w) × Put t q w v u → Putting s at fs u r rest
 putting-more g p = record {
   same = p .1 .same ∙ g .same;
   space = space-past (g .space) (p .1 .same) (p .0);
@@ -115,8 +122,8 @@ putting-more g p = record {
 }
 
 -- a run of fields
-pub putting-run : {s t u : List ℕ} {at q r : ℕ} {fs : List Slot} (gs rest : List Slot) → Putting s at fs t q (gs ++ rest)
-    → Wrote t q gs u r → Putting s at fs u r rest
+pub putting-run : {s t u : List ℕ} {at q r : ℕ} {fs : List Slot} (gs rest : List Slot)
+    → Putting s at fs t q (gs ++ rest) → Wrote t q gs u r → Putting s at fs u r rest
 putting-run gs rest g p = record {
   same = p .same ∙ g .same;
   space = space-second gs rest (g .space) p;

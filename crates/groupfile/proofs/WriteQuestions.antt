@@ -1,18 +1,19 @@
--- Question 15 in the order in which the code asks its parts, and Write's answer from the first No. Assumes nothing.
-use mathlib.Core.Path.{_≡_, refl, sym, ap, ap₂, _∙_}
-use mathlib.Core.Bool.{Bool, true, false, _&&_, and-assoc, and-comm}
-use mathlib.Core.List.{List, [], _∷_, _++_}
-use Prim.Native.Nat.{ℕ, _≤_, _<_}
+-- Question 15 in the order in which the code asks its parts, and Write's answer from the first No. Assumes
+-- nothing.
+use mathlib.Core.Path.{_≡_, sym, ap, ap₂, _∙_}
+use mathlib.Core.Bool.{Bool, true, _&&_, and-assoc, and-comm}
+use mathlib.Core.List.{List, [], _∷_}
+use Prim.Native.Nat.{ℕ}
 use native.Mathlib.Omega.{arith}
 use borrow.Author.Tests.{le-leb}
 use lib.Dec.{eqb}
 use lib.ListN.{length}
 use Rattle.plan.specs.Arithmetic.{sum}
 use Rattle.plan.specs.Header.{Header, risksField}
-use Rattle.plan.specs.File.{countWidth, claimWidth, fileOf, fileLength}
-use Rattle.plan.specs.Questions.{Question, ask, Verdict, passed, failed, firstNo, headerQuestions, fits, allFit, headerFits}
-use Rattle.plan.specs.Questions.{question13, question15, writeEnough, writeQuestions}
-use Rattle.plan.specs.Calls.{Answer, given, answer, giving, filled, bufferAfter, Group, write}
+use Rattle.plan.specs.File.{countWidth, claimWidth, fileOf}
+use Rattle.plan.specs.Questions.{ask, Verdict, passed, failed, firstNo, fits, allFit, headerFits}
+use Rattle.plan.specs.Questions.{headerQuestions, question13, question15, writeEnough, writeQuestions}
+use Rattle.plan.specs.Calls.{given, answer, giving, filled, bufferAfter, Group, write}
 use Rattle.plan.proofs.Questions.{orElse, first-append}
 use Rattle.plan.proofs.Writable.{Writable, write-sound}
 use Rattle.groupfile.specs.Write.{WriteSays}
@@ -27,8 +28,8 @@ pub fifteen : (h : Header) (counts claims : List ℕ) {a b c : Bool}
 fifteen h counts claims p q r =
     ap (ask 15)
     (ap₂ _&&_ (ap₂ _&&_ (sym p) (sym q)) (sym r)
-    ∙ reorder (fits (risksField .width) (length counts)) (allFit countWidth counts) (allFit claimWidth claims) (headerFits h)
-    (eqb (sum counts) (length claims)))
+    ∙ reorder (fits (risksField .width) (length counts)) (allFit countWidth counts) (allFit claimWidth claims)
+    (headerFits h) (eqb (sum counts) (length claims)))
   where
     reorder : (a b c d e : Bool) → (a && (b && e) && (c && d)) ≡ (a && b && c && d && e)
     reorder a b c d e = simp (and-assoc, and-comm e (c && d))
@@ -49,12 +50,15 @@ pub first-no : (g : Group) (room : ℕ) {v : Verdict} {b e : Bool}
     → verdictOf g room ≡ orElse v (firstNo (ask 15 b ∷ ask 13 e ∷ []))
 first-no g room p q r =
     first-append (headerQuestions (g .header) (length (g .counts)))
-    (question15 (g .header) (g .counts) (g .claims) ∷ question13 (writeEnough (g .header) (g .counts) (g .claims) room) ∷ [])
+    (question15 (g .header) (g .counts) (g .claims)
+    ∷ question13 (writeEnough (g .header) (g .counts) (g .claims) room)
+    ∷ [])
     ∙ λ i. orElse (p i) (firstNo (sym q i ∷ ask 13 (r i) ∷ []))
 
 -- values that pass 3 to 7 and 15, whatever the room
 pub passed-15 : (g : Group) → firstNo (headerQuestions (g .header) (length (g .counts))) ≡ passed
-    → ask 15 true ≡ question15 (g .header) (g .counts) (g .claims) → Writable (g .header) (g .counts) (g .claims)
+    → ask 15 true ≡ question15 (g .header) (g .counts) (g .claims)
+    → Writable (g .header) (g .counts) (g .claims)
 passed-15 g p q =
     let n : ℕ = length (fileOfGroup g) in
     write-sound (g .header) (g .counts) (g .claims) n (first-no g n p q (le-leb n n (omega arith))) .writable

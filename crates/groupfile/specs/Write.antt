@@ -1,12 +1,12 @@
--- Write's answer as document 01's: for each case of the code's enum its number or length. And what its parts ask for and leave:
--- fields put one after another.
+-- Write's answer as document 01's: for each case of the code's enum its number or length. And what its parts
+-- ask for and leave: fields put one after another.
 use mathlib.Core.Path.{_≡_}
-use mathlib.Core.List.{List, [], _∷_}
+use mathlib.Core.List.{List, _∷_}
 use Prim.Native.Nat.{ℕ, _+_, _*_, _^_, _≤_, _<_}
-use lib.ListN.{length}
-use Rattle.plan.specs.Field.{bit, Slot, slot, totalWidth}
+use lib.ListN.{length, take, drop}
+use Rattle.plan.specs.Field.{bit, Slot, slot, slots, totalWidth}
 use Rattle.plan.specs.Header as plan
-use Rattle.plan.specs.File.{fileLength}
+use Rattle.plan.specs.File.{countWidth, claimWidth, fileLength}
 use Rattle.plan.specs.Questions.{passed, firstNo, writeQuestions}
 use Rattle.plan.specs.Calls.{Answer, refused, given, giving, Group, write, writeBuffer}
 use Rattle.plan.proofs.Written.{Laid, Fitting}
@@ -31,14 +31,14 @@ pub record WriteSays (g : Group) (old : List ℕ) (r : Written) (new : List ℕ)
 
 -- ---- fields put one after another
 
--- the fields lie in the bytes s from the place `at` on, and each holds its value
+-- the bytes s have room for the fields from the place `at` on, and each value fits its field
 pub record Space (s : List ℕ) (at : ℕ) (fs : List Slot) : Type 0 where
   pub within : at + totalWidth fs ≤ 8 * length s
   pub reach : at + totalWidth fs < 2 ^ 64
   pub fitting : Fitting fs
 
--- put over the bytes s from the place `at` on, which leaves t: the fields lie there, `next` is the place after them, and each
--- bit elsewhere is kept
+-- put over the bytes s from the place `at` on, which leaves t: the fields lie there, `next` is the place after
+-- them, and each bit elsewhere is kept
 pub record Wrote (s : List ℕ) (at : ℕ) (fs : List Slot) (t : List ℕ) (next : ℕ) : Type 0 where
   pub same : length t ≡ length s
   pub place : next ≡ at + totalWidth fs
@@ -46,25 +46,16 @@ pub record Wrote (s : List ℕ) (at : ℕ) (fs : List Slot) (t : List ℕ) (next
   pub before : (k : ℕ) → k < at → bit t k ≡ bit s k
   pub after : (k : ℕ) → next ≤ k → bit t k ≡ bit s k
 
--- the header's first five fields, and the other six
+-- the header's first five fields, which n is not among, and the other six
 abbrev pub frontSlots : plan.Header → List Slot
-frontSlots h =
-    slot 4 1
-    ∷ slot 20 (h .lossLimit)
-    ∷ slot 22 (h .standardPremium)
-    ∷ slot 20 (h .expense)
-    ∷ slot 11 (h .conversion)
-    ∷ []
+frontSlots h = take 5 (plan.headerSlots h 0)
 
 abbrev pub backSlots : plan.Header → ℕ → List Slot
-backSlots h n =
-    slot 15 (h .tax)
-    ∷ slot 1 (h .markKind)
-    ∷ slot 13 (h .maximumMark)
-    ∷ slot 13 (h .minimumMark)
-    ∷ slot 8 n
-    ∷ slot 1 0
-    ∷ []
+backSlots h n = drop 5 (plan.headerSlots h n)
+
+-- a risk's fields: the number of its claims, then its claims
+abbrev pub riskFields : List ℕ → List Slot
+riskFields claims = slot countWidth (length claims) ∷ slots claimWidth claims
 
 -- every question of Write is answered Yes, and n is the file's length
 pub record Ready (h : plan.Header) (counts claims out : List ℕ) (n : ℕ) : Type 0 where

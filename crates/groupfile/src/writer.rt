@@ -1,17 +1,16 @@
 // Write: given values as the bytes of a group file. All questions are decided before the first byte is stored.
 ghost use mathlib.Core.Path.{_≡_};
 ghost use mathlib.Core.Bool.{_&&_};
-ghost use mathlib.Core.List.{_∷_};
 ghost use Prim.Native.Nat.{_+_, _*_, _^_, _≤_, _<_};
 ghost use lib.Dec.{eqb};
 ghost use lib.ListN.{length};
 ghost use Rattle.plan.specs.Arithmetic.{sum};
 ghost use Rattle.plan.specs.Calls.{filled};
-ghost use Rattle.plan.specs.Field.{slot, slots};
 ghost use Rattle.plan.specs.File.{countWidth, claimWidth, bytesFor, riskSlots, fileOf};
 ghost use Rattle.plan.specs.Questions.{ask, fits, allFit, headerFits, question15};
 ghost use Rattle.groupfile.specs.Values.{headerIs};
-ghost use Rattle.groupfile.specs.Write.{groupOf, WriteSays, Space, Wrote, frontSlots, backSlots, Ready};
+ghost use Rattle.groupfile.specs.Write.{groupOf, WriteSays};
+ghost use Rattle.groupfile.specs.Write.{Space, Wrote, frontSlots, backSlots, riskFields, Ready};
 use crate::header::Header;
 use crate::header::Verdict;
 use crate::header::header_verdict;
@@ -105,7 +104,8 @@ fn put_front(out: &mut [u8], h: Header) -> BitPlace
 // Puts tax multiplier to spare bit.
 fn put_back(out: &mut [u8], place: BitPlace, h: Header, risks: u32) -> BitPlace
     requires { ⌜ Space (now out) (place .at) (backSlots (headerIs h) risks) ⌝ }
-    ensures { λ r. ⌜ Wrote (now (out .entry)) (place .at) (backSlots (headerIs h) risks) (now (out .exit)) (r .at) ⌝ }
+    ensures { λ r. ⌜ Wrote (now (out .entry)) (place .at) (backSlots (headerIs h) risks)
+        (now (out .exit)) (r .at) ⌝ }
 {
     let kind = place.put(out, 15, h.tax);
     let maximum = kind.put(out, 1, h.mark_kind);
@@ -117,9 +117,8 @@ fn put_back(out: &mut [u8], place: BitPlace, h: Header, risks: u32) -> BitPlace
 
 // Puts a risk: the number of its claims, then its claims.
 fn put_risk(out: &mut [u8], place: BitPlace, claims: &[u32]) -> BitPlace
-    requires { ⌜ Space (now out) (place .at) (slot countWidth (length (now claims)) ∷ slots claimWidth (now claims)) ⌝ }
-    ensures { λ r. ⌜ Wrote (now (out .entry)) (place .at)
-        (slot countWidth (length (now (claims .entry))) ∷ slots claimWidth (now (claims .entry)))
+    requires { ⌜ Space (now out) (place .at) (riskFields (now claims)) ⌝ }
+    ensures { λ r. ⌜ Wrote (now (out .entry)) (place .at) (riskFields (now (claims .entry)))
         (now (out .exit)) (r .at) ⌝ }
 {
     let mut next = place.put(out, 6, claims.len() as u32);
@@ -133,10 +132,10 @@ fn put_risk(out: &mut [u8], place: BitPlace, claims: &[u32]) -> BitPlace
 
 // Puts the risks, each with as many of the claims as its count says.
 fn put_risks(out: &mut [u8], place: BitPlace, counts: &[u8], claims: &[u32]) -> BitPlace
-    requires { ⌜ Space (now out) (place .at) (riskSlots (now counts) (now claims)) ⌝
-        ∗ ⌜ sum (now counts) ≤ length (now claims) ⌝ }
-    ensures { λ r. ⌜ Wrote (now (out .entry)) (place .at) (riskSlots (now (counts .entry)) (now (claims .entry)))
-        (now (out .exit)) (r .at) ⌝ }
+    requires { ⌜ Space (now out) (place .at) (riskSlots (now counts) (now claims)) ⌝ }
+    requires { ⌜ sum (now counts) ≤ length (now claims) ⌝ }
+    ensures { λ r. ⌜ Wrote (now (out .entry)) (place .at)
+        (riskSlots (now (counts .entry)) (now (claims .entry))) (now (out .exit)) (r .at) ⌝ }
 {
     let mut next = place;
     let mut i = 0;
@@ -158,7 +157,7 @@ fn file_length(risks: usize, claims: usize) -> usize
     (128 + 6 * risks + 20 * claims + 7) / 8
 }
 
-// Writes the file over the first bytes of the buffer, which are as many as it has.
+// Puts the file over the first bytes of the buffer: every field, then zero bits that fill the last byte.
 fn put_file(out: &mut [u8], header: Header, counts: &[u8], claims: &[u32], length: usize)
     requires { ⌜ Ready (headerIs header) (now counts) (now claims) (now out) length ⌝ }
     ensures { λ r. ⌜ now (out .exit)
@@ -171,9 +170,10 @@ fn put_file(out: &mut [u8], header: Header, counts: &[u8], claims: &[u32], lengt
     end.put(out, fill as u32, 0);
 }
 
-// The file of given values in `out`, whose later bytes are kept; or the first question that failed, and `out` as it was.
+// The file of given values, put over the first bytes of `out`; or the first question that failed, and nothing.
 pub fn write(header: Header, counts: &[u8], claims: &[u32], out: &mut [u8]) -> Written
-    ensures { λ r. ⌜ WriteSays (groupOf header (now (counts .entry)) (now (claims .entry))) (now (out .entry)) r (now (out .exit)) ⌝ }
+    ensures { λ r. ⌜ WriteSays (groupOf header (now (counts .entry)) (now (claims .entry)))
+        (now (out .entry)) r (now (out .exit)) ⌝ }
 {
     let verdict = header_verdict(header, counts.len());
     if let Verdict::Failed(question) = verdict {

@@ -36,20 +36,16 @@ pub extern "C" fn retro_rate(
     excess: &mut u64,
     billed: &mut u64,
 ) -> u32
-    ensures says {
-        λ code. ⌜
-            RateExported (now (file .entry)) (now (premiums .entry)) code
-            (numbers (now (risks .entry)) (now (basic .entry)) (now (excess .entry)) (now (billed .entry)))
-            (numbers (now (risks .exit)) (now (basic .exit)) (now (excess .exit)) (now (billed .exit)))
-            (now (premiums .exit))
-        ⌝
-    }
-    ensures demand3 {
-        λ code. ⌜
-            Demand3After (rate (now (file .entry)) (length (now (premiums .entry)))) (now (file .entry))
-            (now (basic .exit)) (now (excess .exit)) (now (billed .exit)) (now (premiums .exit))
-        ⌝
-    }
+    ensures says { λ code. ⌜
+        RateExported (now (file .entry)) (now (premiums .entry)) code
+        (numbers (now (risks .entry)) (now (basic .entry)) (now (excess .entry)) (now (billed .entry)))
+        (numbers (now (risks .exit)) (now (basic .exit)) (now (excess .exit)) (now (billed .exit)))
+        (now (premiums .exit))
+        ⌝ }
+    ensures demand3 { λ code. ⌜
+        Demand3After (rate (now (file .entry)) (length (now (premiums .entry)))) (now (file .entry))
+        (now (basic .exit)) (now (excess .exit)) (now (billed .exit)) (now (premiums .exit))
+        ⌝ }
 {
     match rating::rates::rate(file, premiums) {
         Rated::Refused(k) => k,
@@ -65,13 +61,16 @@ pub extern "C" fn retro_rate(
 
 // Table: 0 and charge and savings in thousandths; or the number of the first question that failed.
 #[no_mangle]
-pub extern "C" fn retro_table(file: &[u8], entry_ratio: u32, charge: &mut u32, savings: &mut u32) -> u32
-    ensures {
-        λ code. ⌜
-            TableExported (now (file .entry)) «entry_ratio» code
-            (now (charge .entry)) (now (charge .exit)) (now (savings .entry)) (now (savings .exit))
-        ⌝
-    }
+pub extern "C" fn retro_table(
+    file: &[u8],
+    entry_ratio: u32,
+    charge: &mut u32,
+    savings: &mut u32,
+) -> u32
+    ensures { λ code. ⌜
+        TableExported (now (file .entry)) «entry_ratio» code
+        (now (charge .entry)) (now (charge .exit)) (now (savings .entry)) (now (savings .exit))
+        ⌝ }
 {
     match rating::tables::table(file, entry_ratio) {
         Tabled::Refused(k) => k,
@@ -86,12 +85,10 @@ pub extern "C" fn retro_table(file: &[u8], entry_ratio: u32, charge: &mut u32, s
 // Read: the header, the counts and the claims; or the number of the first question that failed.
 #[no_mangle]
 pub extern "C" fn retro_read(file: &[u8], counts: &mut [u8], claims: &mut [u32]) -> RetroGroup
-    ensures {
-        λ r. ⌜
-            ReadExported (now (file .entry)) (now (counts .entry)) (now (claims .entry)) r
-            (now (counts .exit)) (now (claims .exit))
-        ⌝
-    }
+    ensures { λ r. ⌜
+        ReadExported (now (file .entry)) (now (counts .entry)) (now (claims .entry)) r
+        (now (counts .exit)) (now (claims .exit))
+        ⌝ }
 {
     match groupfile::reader::read(file, counts, claims) {
         GroupRead::Refused(k) => RetroGroup {
@@ -133,12 +130,10 @@ pub extern "C" fn retro_write(
     file: &mut [u8],
     length: &mut usize,
 ) -> u32
-    ensures {
-        λ code. ⌜
-            WriteExported (groupOf header (now (counts .entry)) (now (claims .entry))) (now (file .entry)) code
-            (now (length .entry)) (now (length .exit)) (now (file .exit))
-        ⌝
-    }
+    ensures { λ code. ⌜
+        WriteExported (groupOf header (now (counts .entry)) (now (claims .entry))) (now (file .entry)) code
+        (now (length .entry)) (now (length .exit)) (now (file .exit))
+        ⌝ }
 {
     match groupfile::writer::write(header, counts, claims, file) {
         Written::Refused(k) => k,

@@ -1,7 +1,7 @@
 -- The invariant: the claims from i on fit where all do. The measure is the claims left. Assumes nothing.
 use mathlib.Core.Path.{_≡_, refl, sym, ap, _∙_}
-use mathlib.Core.Bool.{Bool, true, false, not, _&&_}
-use mathlib.Core.List.{List, [], _∷_}
+use mathlib.Core.Bool.{Bool, _&&_}
+use mathlib.Core.List.{List}
 use Prim.Native.Nat.{ℕ, _+_, _-_, _≤_, _<_}
 use native.Mathlib.Omega.{arith}
 use borrow.Author.Needs.{needs}
@@ -19,8 +19,9 @@ abbrev μ-loop : tie.MeasureT-loop
 μ-loop claims i₀ i = length claims - i
 
 -- the claim at i was tested
-tested : (claims : List ℕ) (i : ℕ) {r x : Bool} → i < length claims → allFit 20 (drop i claims) ≡ allFit 20 claims
-    → r ≡ fits 20 (getD claims i 0) → r ≡ x → (x && allFit 20 (drop (i + 1) claims)) ≡ allFit 20 claims
+tested : (claims : List ℕ) (i : ℕ) {r x : Bool} → i < length claims
+    → allFit 20 (drop i claims) ≡ allFit 20 claims → r ≡ fits 20 (getD claims i 0) → r ≡ x
+    → (x && allFit 20 (drop (i + 1) claims)) ≡ allFit 20 claims
 tested claims i h rest is e =
     ap (λ (y : Bool). y && allFit 20 (drop (i + 1) claims)) (sym e ∙ is) ∙ sym (fit-more 20 claims i h) ∙ rest
 
@@ -41,7 +42,8 @@ returns c =
     let i = c .before .before .before in
     let l = i .before .loop in
     let fit = c .before .value-fits in
-    tested (i .before .before .before .args .claims .now) (l .i) (i .loop-test .taken) (l .inv .1) (fit .ensures)
+    let claims : List ℕ = i .before .before .before .args .claims .now in
+    tested claims (l .i) (i .loop-test .taken) (l .inv .1) (fit .ensures)
     (not-true (fit .result) (c .if1 .taken))
 
 add-i : tie.Need-add-i Inv-loop μ-loop
@@ -54,9 +56,10 @@ loop-again : tie.Need-loop-again Inv-loop μ-loop
 loop-again c =
     let i = c .before .before .before in
     let l = i .before .loop in
-    let fit = c .before .value-fits in (
+    let fit = c .before .value-fits in
+    let claims : List ℕ = i .before .before .before .args .claims .now in (
       omega arith,
-      tested (i .before .before .before .args .claims .now) (l .i) (i .loop-test .taken) (l .inv .1) (fit .ensures)
+      tested claims (l .i) (i .loop-test .taken) (l .inv .1) (fit .ensures)
           (not-false (fit .result) (c .if1 .left)),
     )
 

@@ -37,16 +37,13 @@ returns c =
     let c4 = c5 .before in
     let c3 = c4 .before in
     let c2 = c3 .before in
-    simp (
-      c2 .before .value-fits .ensures,
-      c2 .value-fits2 .ensures,
-      c3 .value-fits3 .ensures,
-      c4 .value-fits4 .ensures,
-      c5 .value-fits5 .ensures,
-      c6 .value-fits6 .ensures,
-      c7 .value-fits7 .ensures,
-      c .value-fits8 .ensures,
-    )
+    let two = ap₂ _&&_ (c2 .before .value-fits .ensures) (c2 .value-fits2 .ensures) in
+    let three = ap₂ _&&_ two (c3 .value-fits3 .ensures) in
+    let four = ap₂ _&&_ three (c4 .value-fits4 .ensures) in
+    let five = ap₂ _&&_ four (c5 .value-fits5 .ensures) in
+    let six = ap₂ _&&_ five (c6 .value-fits6 .ensures) in
+    let seven = ap₂ _&&_ six (c7 .value-fits7 .ensures) in
+    ap₂ _&&_ seven (c .value-fits8 .ensures)
 
 pub header-fits-spec : {M : Type 1} → statement M
 header-fits-spec =

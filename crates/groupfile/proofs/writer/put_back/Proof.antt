@@ -47,7 +47,8 @@ returns c =
     wrote-more (c1 .put .ensures)
     (wrote-more (c2 .put2 .ensures)
     (wrote-more (c3 .put3 .ensures)
-    (wrote-more (c4 .put4 .ensures) (wrote-more (c5 .put5 .ensures) (wrote-more (c6 .put6 .ensures) (wrote-none _ _))))))
+    (wrote-more (c4 .put4 .ensures)
+    (wrote-more (c5 .put5 .ensures) (wrote-more (c6 .put6 .ensures) (wrote-none _ _))))))
 
 pub put-back-spec : {M : Type 1} → statement M
 put-back-spec =

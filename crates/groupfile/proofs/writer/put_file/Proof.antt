@@ -1,29 +1,18 @@
--- The header's two parts and the risks are the file's fields, one run after another, and the fill ends the last byte. Assumes
--- nothing.
-use mathlib.Core.Path.{_≡_, ap, _∙_}
+-- The header's two parts and the risks are the file's fields, one run after another, and the fill ends the last
+-- byte. Assumes nothing.
 use mathlib.Core.List.{List, _++_}
-use Prim.Native.Nat.{ℕ, _*_, _-_, _≤_, _<_}
+use Prim.Native.Nat.{ℕ}
 use native.Mathlib.Omega.{arith}
 use borrow.Author.Needs.{needs}
 use lib.ListN.{length}
 use Rattle.plan.specs.Header.{Header}
 use Rattle.plan.specs.Field.{Slot}
 use Rattle.plan.specs.File.{riskSlots, fileSlots}
-use Rattle.plan.proofs.Writable.{file-fitting}
 use Rattle.groupfile.specs.Values.{headerIs}
 use Rattle.groupfile.specs.Write.{Space, Wrote, frontSlots, backSlots, Ready}
 use Rattle.groupfile.proofs.Puts.{space-first, Putting, putting-starts, putting-run}
-use Rattle.groupfile.proofs.PutFile.{
-  file-put,
-  ready-writable,
-  ready-bytes,
-  ready-enough,
-  ready-small,
-  ready-space,
-  fill-starts,
-  fill-small,
-  fill-room,
-}
+use Rattle.groupfile.proofs.PutFile.{file-put, ready-writable, ready-bytes, ready-enough, ready-small}
+use Rattle.groupfile.proofs.PutFile.{ready-space, fill-starts, fill-small, fill-room}
 use Rattle.groupfile.proofs.writer.put_file.Statement.{statement}
 use Rattle.groupfile.proofs.writer.put_file.Tie as tie
 
@@ -64,35 +53,35 @@ put-risks-requires c κs =
     let b = c .before .before .before in
     let f = b .before .before .before .before in
     let s = f .before .before .before .before .before in
-    (after-back (s .pre) (f .put-front .ensures) (b .put-back .ensures) .space, omega (arith, ready-writable (s .pre) .adds))
+    let g = after-back (s .pre) (f .put-front .ensures) (b .put-back .ensures) in
+    (g .space, omega (arith, ready-writable (s .pre) .adds))
 
--- all fields are put
+abbrev start : tie.After-put-risks → tie.Start
+start c =
+    let b = c .before .before .before .before in
+    b .before .before .before .before .before .before .before .before .before
+
+-- every field is put
 wrote : (c : tie.After-put-risks)
-    → let s = c .before .before .before .before .before .before .before .before .before .before .before .before .before in
-    Wrote (s .args .out .now) 0 (fileSlots (headerIs (s .args .header)) (s .args .counts .now) (s .args .claims .now))
+    → let a = start c .args in
+    Wrote (a .out .now) 0 (fileSlots (headerIs (a .header)) (a .counts .now) (a .claims .now))
     (c .put-risks .last .0) (c .put-risks .result .at)
 wrote c =
     let b = c .before .before .before .before in
     let f = b .before .before .before .before in
-    let s = f .before .before .before .before .before in
-    after-back (s .pre) (f .put-front .ensures) (b .put-back .ensures) .left (c .put-risks .ensures)
-
-ready : (c : tie.After-put-risks)
-    → let s = c .before .before .before .before .before .before .before .before .before .before .before .before .before in
-    Ready (headerIs (s .args .header)) (s .args .counts .now) (s .args .claims .now) (s .args .out .now) (s .args .length)
-ready c = c .before .before .before .before .before .before .before .before .before .before .before .before .before .pre
+    after-back (start c .pre) (f .put-front .ensures) (b .put-back .ensures) .left (c .put-risks .ensures)
 
 mul-fill : tie.Need-mul-fill
-mul-fill c = omega (arith, ready-small (ready (c .before .before)))
+mul-fill c = omega (arith, ready-small (start (c .before .before) .pre))
 
 sub-fill : tie.Need-sub-fill
-sub-fill c = let p = c .before .before .before in fill-starts (ready p) (wrote p)
+sub-fill c = let r = c .before .before .before in fill-starts (start r .pre) (wrote r)
 
 cast-put : tie.Need-cast-put
-cast-put c = let p = c .before .before .before .before in omega (arith, fill-small (ready p) (wrote p))
+cast-put c = let r = c .before .before .before .before in omega (arith, fill-small (start r .pre) (wrote r))
 
 put-requires : tie.Need-put-requires
-put-requires c κs = let p = c .before .before .before .before in fill-room (ready p) (wrote p)
+put-requires c κs = let r = c .before .before .before .before in fill-room (start r .pre) (wrote r)
 
 same-length : tie.Need-same-length
 same-length c = search needs
@@ -100,11 +89,14 @@ same-length c = search needs
 returns : tie.Need-returns
 returns c =
     let f = c .before .before in
-    let p = f .before .before .before .before .before in
-    let old = p .before .before .before .before .before .before .before .before .before .before .before .before in
-    file-put (fileSlots (headerIs (old .before .args .header)) (old .before .args .counts .now) (old .before .args .claims .now))
-    (ready-space (ready p) .fitting) (λ i. old .slice-known .given i .fits) (λ i. c .slice-known5 .given i .fits)
-    (wrote p) (f .put .ensures .1) (ready-bytes (ready p)) (ready-enough (ready p))
+    let r = f .before .before .before .before .before in
+    let p = start r .pre in
+    let a = start r .args in
+    let b = r .before .before .before .before in
+    let old = b .before .before .before .before .before .before .before .before in
+    file-put (fileSlots (headerIs (a .header)) (a .counts .now) (a .claims .now)) (ready-space p .fitting)
+    (λ i. old .slice-known .given i .fits) (λ i. c .slice-known5 .given i .fits)
+    (wrote r) (f .put .ensures .1) (ready-bytes p) (ready-enough p)
 
 pub put-file-spec : {M : Type 1} → statement M
 put-file-spec =

@@ -31,7 +31,8 @@ returns c =
     let c1 = c2 .before .before .before .before in
     wrote-more (c1 .put .ensures)
     (wrote-more (c2 .put2 .ensures)
-    (wrote-more (c3 .put3 .ensures) (wrote-more (c4 .put4 .ensures) (wrote-more (c5 .put5 .ensures) (wrote-none _ _)))))
+    (wrote-more (c3 .put3 .ensures)
+    (wrote-more (c4 .put4 .ensures) (wrote-more (c5 .put5 .ensures) (wrote-none _ _)))))
 
 pub put-front-spec : {M : Type 1} → statement M
 put-front-spec =

@@ -1,14 +1,15 @@
 -- The invariant: of the claims, those from i on are left to be put. The measure is how many. Assumes nothing.
-use mathlib.Core.Path.{_≡_, refl, sym, ap, _∙_, subst}
-use mathlib.Core.List.{List, [], _∷_}
-use Prim.Native.Nat.{ℕ, _+_, _-_, _*_, _≤_, _<_}
+use mathlib.Core.Path.{ap}
+use mathlib.Core.List.{List, _∷_}
+use Prim.Native.Nat.{ℕ, _+_, _-_, _≤_, _<_}
 use native.Mathlib.Omega.{arith}
 use borrow.Author.Needs.{needs}
 use lib.Dec.{lit≤}
 use lib.ListN.{length, getD, drop, drop-of-length-le}
 use Rattle.plan.specs.Field.{Slot, slot, slots}
 use Rattle.groupfile.proofs.Rests.{rest-more}
-use Rattle.groupfile.proofs.Puts.{room, space-past, wrote-more, Putting, putting-starts, putting-as, putting-more, putting-ends}
+use Rattle.groupfile.proofs.Puts.{room, space-past, wrote-more}
+use Rattle.groupfile.proofs.Puts.{Putting, putting-starts, putting-as, putting-more, putting-ends}
 use Rattle.groupfile.proofs.writer.put_risk.Statement.{statement}
 use Rattle.groupfile.proofs.writer.put_risk.Tie as tie
 
@@ -18,6 +19,10 @@ Inv-loop out₀ claims next₀ i₀ out next i =
 
 abbrev μ-loop : tie.MeasureT-loop
 μ-loop out₀ claims next₀ i₀ out next i = length claims - i
+
+-- the risk's claims
+abbrev given : tie.At-loop Inv-loop μ-loop → List ℕ
+given c = c .before .before .before .before .before .before .before .args .claims .now
 
 -- the claim at i is the first of the rest
 next : {s t : List ℕ} {at q : ℕ} {fs : List Slot} (claims : List ℕ) (i : ℕ) → i < length claims
@@ -33,8 +38,9 @@ put-requires c κs = room (c .before .before .before .pre) (lit≤ tt)
 
 loop-holds : tie.Need-loop-holds Inv-loop μ-loop
 loop-holds c =
-    let p = c .before .before .put .ensures in
-    (omega arith, putting-starts (space-past (c .before .before .before .before .before .before .pre) (p .1 .same) (p .0)))
+    let p = c .before .before in
+    let e = p .put .ensures in
+    (omega arith, putting-starts (space-past (p .before .before .before .before .pre) (e .1 .same) (e .0)))
 
 mul-put : tie.Need-mul-put Inv-loop μ-loop
 mul-put c = search needs
@@ -46,8 +52,7 @@ put-requires-2 : tie.Need-put-requires-2 Inv-loop μ-loop
 put-requires-2 c κs =
     let i = c .before .before in
     let l = i .before .loop in
-    let claims : List ℕ = i .before .before .before .before .before .before .before .before .args .claims .now in
-    room (next claims (l .i) (i .loop-test .taken) (l .inv .1) .space) (lit≤ tt)
+    room (next (given (i .before)) (l .i) (i .loop-test .taken) (l .inv .1) .space) (lit≤ tt)
 
 add-i : tie.Need-add-i Inv-loop μ-loop
 add-i c = search needs
@@ -60,8 +65,8 @@ loop-again c =
     let p = c .before .before in
     let i = p .before .before .before in
     let l = i .before .loop in
-    let claims : List ℕ = i .before .before .before .before .before .before .before .before .args .claims .now in
-    (omega arith, putting-more (next claims (l .i) (i .loop-test .taken) (l .inv .1)) (p .put2 .ensures))
+    let n = next (given (i .before)) (l .i) (i .loop-test .taken) (l .inv .1) in
+    (omega arith, putting-more n (p .put2 .ensures))
 
 same-length : tie.Need-same-length Inv-loop μ-loop
 same-length c = search needs
@@ -70,9 +75,9 @@ returns : tie.Need-returns Inv-loop μ-loop
 returns c =
     let l = c .before .loop in
     let p = c .before .before .before .before in
-    let claims : List ℕ = p .before .before .before .before .args .claims .now in
     wrote-more (p .put .ensures)
-    (putting-ends (putting-as (l .inv .1) (ap (slots 20) (drop-of-length-le claims (c .loop-test .left)))))
+    (putting-ends
+    (putting-as (l .inv .1) (ap (slots 20) (drop-of-length-le (given (c .before)) (c .loop-test .left)))))
 
 pub put-risk-spec : {M : Type 1} → statement M
 put-risk-spec =

@@ -1,18 +1,19 @@
--- The invariant: of the risks, those from i on are left to be put, with the claims from `first` on. The measure is how many.
--- Assumes nothing.
-use mathlib.Core.Path.{_≡_, refl, sym, ap, ap₂, _∙_, subst}
-use mathlib.Core.List.{List, [], _∷_, _++_}
-use Prim.Native.Nat.{ℕ, _+_, _-_, _*_, _≤_, _<_}
+-- The invariant: of the risks, those from i on are left to be put, with the claims from `first` on. The measure
+-- is how many. Assumes nothing.
+use mathlib.Core.Path.{_≡_, sym, ap, ap₂, _∙_}
+use mathlib.Core.List.{List, _∷_, _++_}
+use Prim.Native.Nat.{ℕ, _+_, _-_, _≤_, _<_}
 use native.Mathlib.Omega.{arith}
 use borrow.Author.Needs.{needs}
 use lib.ListN.{length, getD, take, drop, length-drop, drop-of-length-le}
 use lib.Seq.{drop-drop, length-take-le}
 use Rattle.plan.specs.Arithmetic.{sum}
-use Rattle.plan.specs.Field.{Slot, slot, slots}
+use Rattle.plan.specs.Field.{slot, slots}
 use Rattle.plan.specs.File.{riskSlots}
-use Rattle.groupfile.specs.Write.{Wrote}
+use Rattle.groupfile.specs.Write.{Wrote, riskFields}
 use Rattle.groupfile.proofs.Rests.{rest-more}
-use Rattle.groupfile.proofs.Puts.{space-first, Putting, putting-starts, putting-as, putting-run, putting-ends}
+use Rattle.groupfile.proofs.Puts.{space-first}
+use Rattle.groupfile.proofs.Puts.{Putting, putting-starts, putting-as, putting-run, putting-ends}
 use Rattle.groupfile.proofs.writer.put_risks.Statement.{statement}
 use Rattle.groupfile.proofs.writer.put_risks.Tie as tie
 
@@ -22,38 +23,40 @@ record Risks (s : List ℕ) (at : ℕ) (counts claims t : List ℕ) (q i first :
   enough : first + sum (drop i counts) ≤ length claims
   putting : Putting s at (riskSlots counts claims) t q (riskSlots (drop i counts) (drop first claims))
 
--- a risk's fields, and those of the risk at i: as many of the claims as its count says
-abbrev fieldsOf : List ℕ → List Slot
-fieldsOf claims = slot 6 (length claims) ∷ slots 20 claims
-
+-- the claims of the risk at i: as many as its count says
 abbrev own : List ℕ → List ℕ → ℕ → ℕ → List ℕ
 own counts claims i first = take (first + getD counts i 0 - first) (drop first claims)
 
-module _ {s : List ℕ} {at : ℕ} {counts claims t : List ℕ} {q i first : ℕ} (g : Risks s at counts claims t q i first)
-    (h : i < length counts) where
+module _ {s : List ℕ} {at : ℕ} {counts claims t : List ℕ} {q i first : ℕ}
+    (g : Risks s at counts claims t q i first) (h : i < length counts) where
   -- there are as many claims
   there : first + getD counts i 0 + sum (drop (i + 1) counts) ≤ length claims
   there = omega (arith, g .enough, ap sum (rest-more counts i h))
 
   counted : length (own counts claims i first) ≡ getD counts i 0
   counted =
-      length-take-le (first + getD counts i 0 - first) (drop first claims) (omega (arith, there, length-drop first claims))
+      length-take-le (first + getD counts i 0 - first) (drop first claims)
+      (omega (arith, there, length-drop first claims))
       ∙ omega arith
 
   -- the risk at i is the first of the rest
   next : Putting s at (riskSlots counts claims) t q
-      (fieldsOf (own counts claims i first) ++ riskSlots (drop (i + 1) counts) (drop (first + getD counts i 0) claims))
+      (riskFields (own counts claims i first)
+      ++ riskSlots (drop (i + 1) counts) (drop (first + getD counts i 0) claims))
   next =
       let k : ℕ = getD counts i 0 in
       let ks : List ℕ = drop (i + 1) counts in
       let same : k ≡ first + k - first = omega arith in
       putting-as (g .putting)
       (ap (λ (l : List ℕ). riskSlots l (drop first claims)) (rest-more counts i h)
-      ∙ ap₂ (λ (x : ℕ) (y : ℕ). slot 6 x ∷ (slots 20 (take y (drop first claims)) ++ riskSlots ks (drop k (drop first claims))))
+      ∙ ap₂
+      (λ (x y : ℕ). slot 6 x
+      ∷ (slots 20 (take y (drop first claims)) ++ riskSlots ks (drop k (drop first claims))))
       (sym counted) same
-      ∙ ap (λ (l : List ℕ). fieldsOf (own counts claims i first) ++ riskSlots ks l) (drop-drop k first claims))
+      ∙ ap (λ (l : List ℕ). riskFields (own counts claims i first) ++ riskSlots ks l)
+      (drop-drop k first claims))
 
-  goes-on : {u : List ℕ} {r : ℕ} → Wrote t q (fieldsOf (own counts claims i first)) u r
+  goes-on : {u : List ℕ} {r : ℕ} → Wrote t q (riskFields (own counts claims i first)) u r
       → Risks s at counts claims u r (i + 1) (first + getD counts i 0)
   goes-on x = record { within = omega arith; enough = there; putting = putting-run _ _ next x }
 
@@ -88,7 +91,8 @@ part-put-risk-start : tie.Need-part-put-risk-start Inv-loop μ-loop
 part-put-risk-start c = search needs
 
 part-put-risk-end : tie.Need-part-put-risk-end Inv-loop μ-loop
-part-put-risk-end c = let i = c .before .before in omega (arith, there (i .before .loop .inv) (i .loop-test .taken))
+part-put-risk-end c =
+    let i = c .before .before in omega (arith, there (i .before .loop .inv) (i .loop-test .taken))
 
 put-risk-requires : tie.Need-put-risk-requires Inv-loop μ-loop
 put-risk-requires c κs =

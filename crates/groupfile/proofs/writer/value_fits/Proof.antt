@@ -1,6 +1,6 @@
 -- The shift loses nothing, so the value is compared with the power of the width. Assumes nothing.
-use mathlib.Core.Path.{_≡_, ap, _∙_}
-use Prim.Native.Nat.{ℕ, _*_, _%_, _^_, _<_}
+use mathlib.Core.Path.{ap, _∙_}
+use Prim.Native.Nat.{ℕ, _%_, _^_}
 use native.Mathlib.Nat.{one-mul, mod-eq-of-lt}
 use borrow.Author.Needs.{needs}
 use lib.Dec.{ltb}
@@ -13,7 +13,8 @@ shl-result c = search needs
 
 returns : tie.Need-returns
 returns c =
-    ap (ltb (c .args .value)) (ap (λ (x : ℕ). x % 2 ^ 32) (one-mul (2 ^ c .args .width)) ∙ mod-eq-of-lt (pow-lt (c .pre)))
+    ap (ltb (c .args .value))
+    (ap (λ (x : ℕ). x % 2 ^ 32) (one-mul (2 ^ c .args .width)) ∙ mod-eq-of-lt (pow-lt (c .pre)))
 
 pub value-fits-spec : {M : Type 1} → statement M
 value-fits-spec = tie.close (tie.spec shl-result returns)

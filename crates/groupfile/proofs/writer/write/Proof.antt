@@ -1,9 +1,9 @@
--- At each return the answers so far are those of Write's questions, in their order, and nothing is stored before the last of
--- them. Assumes nothing.
+-- At each return the answers so far are those of Write's questions, in their order, and nothing is stored
+-- before the last of them. Assumes nothing.
 use mathlib.Core.Path.{_≡_, refl, sym, ap, _∙_}
-use mathlib.Core.Bool.{Bool, true, false, not}
+use mathlib.Core.Bool.{Bool, true}
 use mathlib.Core.List.{[], _∷_}
-use Prim.Native.Nat.{ℕ, _≤_, _<_}
+use Prim.Native.Nat.{ℕ}
 use native.Mathlib.Omega.{arith}
 use borrow.Author.Needs.{needs}
 use borrow.Author.Tests.{le-leb, lt-leb, not-true, not-false}
@@ -50,7 +50,8 @@ module _ (c : tie.After-values-fit) where
   start = c .before .before .before .before .before .before .before
 
   three-to-seven : firstNo (headerQuestions (group start .header) (length (group start .counts))) ≡ passed
-  three-to-seven = sym (c .before .before .before .header-verdict .ensures) ∙ ap verdictIs (c .before .enum-told .given .1)
+  three-to-seven =
+      sym (c .before .before .before .header-verdict .ensures) ∙ ap verdictIs (c .before .enum-told .given .1)
 
   fifteen : {b : Bool} → c .values-fit .result ≡ b
       → ask 15 b ≡ question15 (group start .header) (group start .counts) (group start .claims)
@@ -90,7 +91,8 @@ module _ (c : tie.After-file-length) where
 
   -- the verdict is that of 13
   thirteen : {e : Bool} → leb (c .file-length .result) room ≡ e
-      → firstNo (writeQuestions (values .header) (values .counts) (values .claims) room) ≡ firstNo (ask 13 e ∷ [])
+      → firstNo (writeQuestions (values .header) (values .counts) (values .claims) room)
+      ≡ firstNo (ask 13 e ∷ [])
   thirteen e =
       first-no values room (three-to-seven (c .before .before)) (yes-15 (c .before))
       (ap (λ (n : ℕ). leb n room) (sym length-right) ∙ e)
