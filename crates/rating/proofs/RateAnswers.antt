@@ -1,7 +1,7 @@
 -- What Rate answers: a refusal of the gate, a No to question 13, or the group rated, with demand 3. The bills that the code puts
 -- are step 6's of the file's group, since n, c, T, M, Q, LG, LH and each A are the file's. Assumes nothing.
 use mathlib.Core.Path.{_≡_, refl, sym, ap, ap₂, _∙_, subst, subst₂, subst₃}
-use mathlib.Core.List.{List, [], _∷_, map}
+use mathlib.Core.List.{List, [], _∷_, map, map-map, map-congr-left}
 use Prim.Native.Nat.{ℕ, _+_, _*_, _^_, _≤_, _<_}
 use native.Mathlib.Nat.{mul-le-mul}
 use native.Mathlib.Omega.{arith}
@@ -62,14 +62,6 @@ module _ (s old : List ℕ) where
   room-enough e h = last-gives (ratingQuestions s) 13 (ratedOf (headerOf s) (lossesIn s)) e (le-leb _ _ h)
 
 -- ---- the bills
-
-map-ext : {A : Type 0} (f g : A → ℕ) → ((x : A) → f x ≡ g x) → (l : List A) → map f l ≡ map g l
-map-ext f g e [] = refl
-map-ext f g e (x ∷ xs) = ap₂ _∷_ (e x) (map-ext f g e xs)
-
-map-map : {A : Type 0} (f : ℕ → ℕ) (g : A → ℕ) (l : List A) → map f (map g l) ≡ map (λ x. f (g x)) l
-map-map f g [] = refl
-map-map f g (x ∷ xs) = ap (λ (l : List ℕ). f (g x) ∷ l) (map-map f g xs)
 
 -- what the bills of a file go by, as the code has it
 abbrev pub billTerms : ℕ → Header → Terms → BillTerms
@@ -134,7 +126,7 @@ module _ (s : List ℕ) (passes : firstNo (ratingQuestions s) ≡ passed) {n : �
   bills-are =
       ap (map (billFor (billTerms n values t))) each
       ∙ map-map (billFor (billTerms n values t)) (λ (r : Losses). r .limited) (lossesIn s)
-      ∙ map-ext _ (billedPremium (headerOf s) (lossesIn s)) bill-is (lossesIn s)
+      ∙ map-congr-left {l = lossesIn s} (λ r m. bill-is r)
 
   pub billed-is : sumOf (billFor (billTerms n values t)) limiteds ≡ sum (billedPremiums (headerOf s) (lossesIn s))
   billed-is = sym (sum-map (λ x. x) (billFor (billTerms n values t)) limiteds) ∙ ap sum bills-are

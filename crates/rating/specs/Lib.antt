@@ -3,3 +3,4 @@ pub mod Steps
 pub mod Gates
 pub mod Tables
 pub mod Rates
+pub mod Detailed

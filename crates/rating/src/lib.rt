@@ -3,3 +3,4 @@ pub mod gates;
 pub mod rates;
 pub mod steps;
 pub mod tables;
+pub mod details;
