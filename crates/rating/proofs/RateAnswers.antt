@@ -64,12 +64,12 @@ module _ (s old : List ℕ) where
 -- ---- the bills
 
 -- what the bills of a file go by, as the code has it
-abbrev pub billTerms : ℕ → Header → Terms → BillTerms
-billTerms n values t = record {
+abbrev pub billTerms : ℕ → Header → Terms → ℕ → BillTerms
+billTerms n values t amount = record {
   risks = n;
   conversion = values .conversion;
   tax = values .tax;
-  amount = t .basic + t .excess;
+  amount = amount;
   minimum = t .minimum;
   maximum = t .maximum;
 }
@@ -100,65 +100,70 @@ module _ (s : List ℕ) (passes : firstNo (ratingQuestions s) ≡ passed) {n : �
         bounds .risks,
       )
 
-  pub bills-bounds : (room : ℕ) → 4 * n ≤ room → BillsBounds n (billTerms n values t) room
-  bills-bounds room enough = record {
-    risks = refl;
-    some = omega (arith, count, bounds .sound .risks);
-    few = omega (arith, count, bounds .risks);
-    conversion = omega (arith, conversion-is, bounds .sound .conversion-most);
-    tax = omega (arith, tax-is, bounds .sound .tax-most);
-    inner = λ k h.
-        let i = inner-le (headerOf s) (lossesIn s) bounds (t .basic) (terms .basic) k (omega (arith, h, terms .maximum)) in
-        subst₃ (λ (x c q : ℕ). t .basic + q + x * c * k ≤ 859831500000 * x) (sym count) (sym conversion-is) (sym (terms .excess)) i;
-    enough = enough;
-  }
+  module _ {amount : ℕ} (amount-is : amount ≡ t .basic + t .excess) where
+    -- M + Q of the file
+    shared : amount ≡ t .basic + excessCharge (headerOf s) (lossesIn s)
+    shared = amount-is ∙ ap (λ (q : ℕ). t .basic + q) (terms .excess)
 
-  -- a bill of the code is that of step 6
-  bill-is : (r : Losses) → billFor (billTerms n values t) (r .limited) ≡ billedPremium (headerOf s) (lossesIn s) r
-  unfolding billFor ratable
-  bill-is r =
-      (λ i. billRounding
-      (tax-is i * (t .basic + terms .excess i + count i * conversion-is i * clamp (terms .minimum i) (terms .maximum i) (r .limited)))
-      (10000000 * count i))
-      ∙ sym (premium-is (headerOf s) (lossesIn s) bounds (t .basic) (terms .basic) r)
-
-  pub bills-are : map (billFor (billTerms n values t)) limiteds ≡ billedPremiums (headerOf s) (lossesIn s)
-  bills-are =
-      ap (map (billFor (billTerms n values t))) each
-      ∙ map-map (billFor (billTerms n values t)) (λ (r : Losses). r .limited) (lossesIn s)
-      ∙ map-congr-left {l = lossesIn s} (λ r m. bill-is r)
-
-  pub billed-is : sumOf (billFor (billTerms n values t)) limiteds ≡ sum (billedPremiums (headerOf s) (lossesIn s))
-  billed-is = sym (sum-map (λ x. x) (billFor (billTerms n values t)) limiteds) ∙ ap sum bills-are
-
-  -- ---- what a rated file's call says
-
-  module _ (old new : List ℕ) {billed : ℕ} (enough : 4 * n ≤ length old)
-      (summed : billed ≡ sumOf (billFor (billTerms n values t)) limiteds)
-      (put : new ≡ filled (bytesOf (slots 32 (map (billFor (billTerms n values t)) limiteds))) old) where
-    is-given : rate s (length old) ≡ given (ratedOf (headerOf s) (lossesIn s))
-    is-given = room-enough s old passes (omega (arith, enough, n-is))
-
-    left : new ≡ rateBuffer s old
-    unfolding ratedOf
-    left =
-        put ∙ ap (λ (ps : List ℕ). filled (bytesOf (slots 32 ps)) old) bills-are
-        ∙ sym (ap (λ (a : Answer Rated). bufferAfter premiumBytes a old) is-given)
-
-    pub given-says : RateSays s old
-        (answers.Given (record { risks = n; basic = t .basic; excess = t .excess; billed = billed })) new
-    unfolding ratedOf
-    given-says = record {
-      answer =
-          (λ i. given (record { risks = count i; basic = terms .basic i; excess = terms .excess i; billed = (summed ∙ billed-is) i }))
-          ∙ sym (ap (giving figuresOf) is-given);
-      buffer = left;
+    pub bills-bounds : (room : ℕ) → 4 * n ≤ room → BillsBounds n (billTerms n values t amount) room
+    bills-bounds room enough = record {
+      risks = refl;
+      some = omega (arith, count, bounds .sound .risks);
+      few = omega (arith, count, bounds .risks);
+      conversion = omega (arith, conversion-is, bounds .sound .conversion-most);
+      tax = omega (arith, tax-is, bounds .sound .tax-most);
+      inner = λ k h.
+          let i = inner-le (headerOf s) (lossesIn s) bounds (t .basic) (terms .basic) k (omega (arith, h, terms .maximum)) in
+          subst₃ (λ (x c a : ℕ). a + x * c * k ≤ 859831500000 * x) (sym count) (sym conversion-is) (sym shared) i;
+      enough = enough;
     }
 
-    pub demanded : Demand3 s (t .basic) (t .excess) billed new
-    unfolding ratedOf
-    demanded =
-        let d = demand3 s old (ratedOf (headerOf s) (lossesIn s)) (t .basic) is-given (terms .basic) in
-        subst₂ (λ (q b : ℕ). Demand3 s (t .basic) q b new) (sym (terms .excess)) (sym (summed ∙ billed-is))
-        (subst (λ (x : List ℕ). Demand3 s (t .basic) (excessCharge (headerOf s) (lossesIn s)) (sum (billedPremiums (headerOf s) (lossesIn s))) x)
-        (sym left) d)
+    -- a bill of the code is that of step 6
+    bill-is : (r : Losses) → billFor (billTerms n values t amount) (r .limited) ≡ billedPremium (headerOf s) (lossesIn s) r
+    unfolding billFor ratable
+    bill-is r =
+        (λ i. billRounding
+        (tax-is i * (shared i + count i * conversion-is i * clamp (terms .minimum i) (terms .maximum i) (r .limited)))
+        (10000000 * count i))
+        ∙ sym (premium-is (headerOf s) (lossesIn s) bounds (t .basic) (terms .basic) r)
+
+    pub bills-are : map (billFor (billTerms n values t amount)) limiteds ≡ billedPremiums (headerOf s) (lossesIn s)
+    bills-are =
+        ap (map (billFor (billTerms n values t amount))) each
+        ∙ map-map (billFor (billTerms n values t amount)) (λ (r : Losses). r .limited) (lossesIn s)
+        ∙ map-congr-left {l = lossesIn s} (λ r m. bill-is r)
+
+    pub billed-is : sumOf (billFor (billTerms n values t amount)) limiteds ≡ sum (billedPremiums (headerOf s) (lossesIn s))
+    billed-is = sym (sum-map (λ x. x) (billFor (billTerms n values t amount)) limiteds) ∙ ap sum bills-are
+
+    -- ---- what a rated file's call says
+
+    module _ (old new : List ℕ) {billed : ℕ} (enough : 4 * n ≤ length old)
+        (summed : billed ≡ sumOf (billFor (billTerms n values t amount)) limiteds)
+        (put : new ≡ filled (bytesOf (slots 32 (map (billFor (billTerms n values t amount)) limiteds))) old) where
+      is-given : rate s (length old) ≡ given (ratedOf (headerOf s) (lossesIn s))
+      is-given = room-enough s old passes (omega (arith, enough, n-is))
+
+      left : new ≡ rateBuffer s old
+      unfolding ratedOf
+      left =
+          put ∙ ap (λ (ps : List ℕ). filled (bytesOf (slots 32 ps)) old) bills-are
+          ∙ sym (ap (λ (a : Answer Rated). bufferAfter premiumBytes a old) is-given)
+
+      pub given-says : RateSays s old
+          (answers.Given (record { risks = n; basic = t .basic; excess = t .excess; billed = billed })) new
+      unfolding ratedOf
+      given-says = record {
+        answer =
+            (λ i. given (record { risks = count i; basic = terms .basic i; excess = terms .excess i; billed = (summed ∙ billed-is) i }))
+            ∙ sym (ap (giving figuresOf) is-given);
+        buffer = left;
+      }
+
+      pub demanded : Demand3 s (t .basic) (t .excess) billed new
+      unfolding ratedOf
+      demanded =
+          let d = demand3 s old (ratedOf (headerOf s) (lossesIn s)) (t .basic) is-given (terms .basic) in
+          subst₂ (λ (q b : ℕ). Demand3 s (t .basic) q b new) (sym (terms .excess)) (sym (summed ∙ billed-is))
+          (subst (λ (x : List ℕ). Demand3 s (t .basic) (excessCharge (headerOf s) (lossesIn s)) (sum (billedPremiums (headerOf s) (lossesIn s))) x)
+          (sym left) d)

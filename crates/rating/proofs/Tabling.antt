@@ -64,7 +64,7 @@ module _ (s : List ℕ) (passes : firstNo (lossQuestions s) ≡ passed) (r : ℕ
       let most : sa ≤ 16845357375 = omega (arith, sa-is, bounds .limited, bounds .total, bounds .risks) in
       omega (arith, mul-le-mul hr most)
 
-  pub half-fits : 50 * n * sa < 2 ^ 64
+  pub half-fits : 2 * (50 * n * sa) < 2 ^ 64
   half-fits = omega (arith, half-is, charge-lt (headerOf s) (lossesIn s) bounds r hr)
 
   pub charge-sum : sumOf (λ a. above (100 * n * a) (r * sa)) limiteds ≡ chargeSum (lossesIn s) r
@@ -84,15 +84,17 @@ module _ (s : List ℕ) (passes : firstNo (lossQuestions s) ≡ passed) (r : ℕ
       let p : 0 < length (lossesIn s) * SA (lossesIn s) = mul-pos (bounds .sound .risks) some in
       omega (arith, half-is, p)
 
-  pub charge-bounds : {x : ℕ} → x ≡ chargeSum (lossesIn s) r → ThousandthsBounds x (50 * n * sa)
+  pub charge-bounds : {x : ℕ} → x ≡ chargeSum (lossesIn s) r → ThousandthsBounds x (50 * n * sa) (2 * (50 * n * sa))
   charge-bounds {x} e = record {
+    halves = refl;
     some = half-some;
     fits = omega (arith, e, half-is, charge-lt (headerOf s) (lossesIn s) bounds r hr);
     most = omega (arith, e, divisor-is, charge-le (headerOf s) (lossesIn s) bounds r hr);
   }
 
-  pub savings-bounds : {x : ℕ} → x ≡ savingsSum (lossesIn s) r → ThousandthsBounds x (50 * n * sa)
+  pub savings-bounds : {x : ℕ} → x ≡ savingsSum (lossesIn s) r → ThousandthsBounds x (50 * n * sa) (2 * (50 * n * sa))
   savings-bounds {x} e = record {
+    halves = refl;
     some = half-some;
     fits = omega (arith, e, half-is, savings-lt (headerOf s) (lossesIn s) bounds r hr);
     most = omega (arith, e, divisor-is, savings-le (headerOf s) (lossesIn s) bounds r hr);

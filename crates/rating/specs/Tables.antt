@@ -1,14 +1,16 @@
 -- What the functions of Table ask for and give, and its answer as document 01's.
+use mathlib.Core.Path.{_≡_}
 use Prim.Native.Nat.{ℕ, _+_, _*_, _^_, _≤_, _<_}
 use Rattle.plan.specs.Calls as plan
 use Rattle.rating.specs.declared.tables.Tabled.{Tabled}
 use Rattle.rating.specs.declared.tables.Tabled.the-variants as answers
 
--- a ratio x ÷ (2 × half) of at most 6 whose thousandths are computed in 64 bits
-pub record ThousandthsBounds (x half : ℕ) : Type 0 where
+-- a ratio x ÷ divisor of at most 6, whose thousandths are computed in 64 bits
+pub record ThousandthsBounds (x half divisor : ℕ) : Type 0 where
+  pub halves : divisor ≡ 2 * half
   pub some : 0 < half
   pub fits : 1000 * x + half < 2 ^ 63
-  pub most : 1000 * x ≤ 6000 * (2 * half)
+  pub most : 1000 * x ≤ 6000 * divisor
 
 -- the code's answer
 abbrev pub ratiosAre : Tabled → plan.Answer plan.Tabled

@@ -5,9 +5,9 @@ ghost use Prim.Native.Nat.{_≤_};
 ghost use lib.ListN.{take};
 ghost use Rattle.plan.specs.Ratable.{clamp};
 ghost use Rattle.rating.specs.Detailed.{DetailsAre};
-use groupfile::header::Verdict;
 use crate::gates::open_rating;
 use crate::steps::ratable_of;
+use groupfile::header::Verdict;
 
 // What questions 1 to 12 come to, n, and L, A and K of each risk; the K are set where the questions pass.
 pub struct Details {

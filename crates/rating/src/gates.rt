@@ -72,18 +72,10 @@ pub fn balance(h: Header, n: u32, total: u64, limited: u64, limiteds: [u32; 255]
     requires { ⌜ GroupNumbers (headerIs h) n total limited (take n limiteds) ⌝ }
     ensures { λ r. ⌜ BalancedIs (headerIs h) n total limited (take n limiteds) r ⌝ }
 {
-    let maximum = dollars_of(
-        mark_of(h.mark_kind, h.maximum_mark),
-        h.standard_premium,
-        n,
-        limited,
-    );
-    let minimum = dollars_of(
-        mark_of(h.mark_kind, h.minimum_mark),
-        h.standard_premium,
-        n,
-        limited,
-    );
+    let highest = mark_of(h.mark_kind, h.maximum_mark);
+    let maximum = dollars_of(highest, h.standard_premium, n, limited);
+    let lowest = mark_of(h.mark_kind, h.minimum_mark);
+    let minimum = dollars_of(lowest, h.standard_premium, n, limited);
     let c = h.conversion as u64;
     let excess = c * (total - limited);
     if maximum < minimum {

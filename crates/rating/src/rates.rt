@@ -9,6 +9,7 @@ ghost use Rattle.plan.specs.File.{bytesOf};
 ghost use Rattle.plan.specs.Calls.{filled};
 ghost use Rattle.rating.specs.Rates.{billFor, BillsBounds, RateSays, Demanded};
 use crate::gates::open_rating;
+use crate::steps::amount_of;
 use crate::steps::bill_of;
 use crate::steps::ratable_of;
 use bits::BitPlace;
@@ -83,11 +84,12 @@ pub fn rate(file: &[u8], premiums: &mut [u8]) -> Rated
             }
             let values = head.values;
             let limiteds = losses.limiteds;
+            let amount = amount_of(terms.basic, terms.excess);
             let by = BillTerms {
                 risks: risks as u64,
                 conversion: values.conversion as u64,
                 tax: values.tax as u64,
-                amount: terms.basic + terms.excess,
+                amount,
                 minimum: terms.minimum,
                 maximum: terms.maximum,
             };

@@ -20,12 +20,12 @@ pub enum Tabled {
     Refused(u32),
 }
 
-// Thousandths of a ratio to the nearest, an exact half upward; `half` is half of what it is divided by.
-fn thousandths_of(x: u64, half: u64) -> u32
-    requires { ⌜ ThousandthsBounds x half ⌝ }
-    ensures { λ r. ⌜ r ≡ nearest (1000 * x) (2 * half) ⌝ }
+// Thousandths of x ÷ divisor to the nearest, an exact half upward, by adding half of the divisor.
+fn thousandths_of(x: u64, half: u64, divisor: u64) -> u32
+    requires { ⌜ ThousandthsBounds x half divisor ⌝ }
+    ensures { λ r. ⌜ r ≡ nearest (1000 * x) divisor ⌝ }
 {
-    ((1000 * x + half) / (2 * half)) as u32
+    ((1000 * x + half) / divisor) as u32
 }
 
 // Table of a file of whatever bytes at an entry ratio of whatever hundredths.
@@ -48,8 +48,9 @@ pub fn table(file: &[u8], r: u32) -> Tabled
             let mark = r as u64 * limited;
             let sums = spread_of(limiteds, n, 100 * n as u64, mark, mark);
             let half = 50 * n as u64 * limited;
-            let charge = thousandths_of(sums.above, half);
-            let savings = thousandths_of(sums.below, half);
+            let divisor = 2 * half;
+            let charge = thousandths_of(sums.above, half, divisor);
+            let savings = thousandths_of(sums.below, half, divisor);
             Tabled::Given(Ratios { charge, savings })
         }
     }

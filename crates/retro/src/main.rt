@@ -4,9 +4,13 @@
 ghost use Prim.Native.Nat.{_≤_};
 ghost use lib.ListN.{length};
 use bits::BitPlace;
-use libc::{STDIN_FILENO, STDOUT_FILENO};
-use rating::details::{Details, details_of};
-use rating::rates::{Figures, Rated, rate};
+use libc::STDIN_FILENO;
+use libc::STDOUT_FILENO;
+use rating::details::Details;
+use rating::details::details_of;
+use rating::rates::Figures;
+use rating::rates::Rated;
+use rating::rates::rate;
 
 // A space and a number.
 fn print_next(n: u64) {
@@ -46,7 +50,13 @@ fn print_risks(d: Details, premiums: &[u8], n: usize) {
     for i in 0..255usize {
         if i < n {
             let premium = BitPlace { at: 32 * i }.take(premiums, 32);
-            print_risk(i as u64 + 1, totals[i], limiteds[i], ratables[i], premium.value);
+            print_risk(
+                i as u64 + 1,
+                totals[i],
+                limiteds[i],
+                ratables[i],
+                premium.value,
+            );
         }
     }
 }

@@ -45,11 +45,11 @@ returns c =
       totals = x .losses .totals;
       limiteds = x .losses .limiteds;
       ratables = λ p.
-      ap (λ (k : ℕ). take k (c .ratables-of .result)) (sym n)
-      ∙ c .ratables-of .ensures
-      ∙ ap (map (clamp (r .terms .minimum) (r .terms .maximum)))
-      (ap (λ (k : ℕ). take k (r .losses .limiteds)) n ∙ x .losses .limiteds)
-      ∙ ratables-are s (r .terms) (x .terms p);
+          ap (λ (k : ℕ). take k (c .ratables-of .result)) (sym n)
+          ∙ c .ratables-of .ensures
+          ∙ ap (map (clamp (r .terms .minimum) (r .terms .maximum)))
+          (ap (λ (k : ℕ). take k (r .losses .limiteds)) n ∙ x .losses .limiteds)
+          ∙ ratables-are s (r .terms) (x .terms p);
     }
 
 pub details-of-spec : {M : Type 1} → statement M

@@ -46,7 +46,7 @@ loop-less : tie.Need-loop-less Inv-loop μ-loop
 loop-less c = omega arith
 
 loop-again : tie.Need-loop-again Inv-loop μ-loop
-loop-again c = 
+loop-again c =
     let l = c .before .before in
     let e = l .before in
     let a = e .args in
@@ -59,7 +59,7 @@ loop-again c =
     (omega arith, refl, filling-more (filling-is (l .loop .inv .2) refl refl next) (omega arith))
 
 returns : tie.Need-returns Inv-loop μ-loop
-returns c = 
+returns c =
     let l = c .before .loop in
     let a = c .before .before .args in
     let n : length (a .t1) ≡ 255 = search needs in

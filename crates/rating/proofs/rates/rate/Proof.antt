@@ -63,8 +63,12 @@ returns c =
     let few = little-room (a .file .now) (a .premiums .now) (passes (c .before)) (omega (arith, c .if1 .taken, o .open-rating .ensures .head .risks)) in
     (refused-says (a .file .now) (a .premiums .now) 13 few, tt)
 
-cast-t19 : tie.Need-cast-t19
-cast-t19 c = search needs
+amount-of-requires : tie.Need-amount-of-requires
+amount-of-requires c κs =
+    let t = c .before .before .before in
+    let o = t .before .before .before .before .before in
+    let h = o .open-rating .ensures .head in
+    amount-fits (o .before .before .before .args .file .now) (passes t) (h .risks) (h .values) (terms-are t) (each o)
 
 cast-t20 : tie.Need-cast-t20
 cast-t20 c = search needs
@@ -72,23 +76,18 @@ cast-t20 c = search needs
 cast-t21 : tie.Need-cast-t21
 cast-t21 c = search needs
 
-add-t22 : tie.Need-add-t22
-add-t22 c =
-    let t = c .before .before .before .before .before .before in
-    let o = t .before .before .before .before .before in
-    let h = o .open-rating .ensures .head in
-    record {
-      fits = amount-fits (o .before .before .before .args .file .now) (passes t) (h .risks) (h .values) (terms-are t) (each o);
-    }
+cast-t22 : tie.Need-cast-t22
+cast-t22 c = search needs
 
 put-bills-requires : tie.Need-put-bills-requires
 put-bills-requires c κs =
-    let e = c .before .before .before .before .before .before in
+    let m = c .before .before .before in
+    let e = m .before .before .before in
     let t = e .before in
     let o = t .before .before .before .before .before in
     let h = o .open-rating .ensures .head in
-    bills-bounds (o .before .before .before .args .file .now) (passes t) (h .risks) (h .values) (terms-are t) (each o) _
-    (e .if1 .left)
+    bills-bounds (o .before .before .before .args .file .now) (passes t) (h .risks) (h .values) (terms-are t) (each o)
+    (m .amount-of .ensures) _ (e .if1 .left)
 
 returns-2 : tie.Need-returns-2
 returns-2 c =
@@ -104,15 +103,18 @@ same-length c = search needs
 returns-3 : tie.Need-returns-3
 returns-3 c =
     let p = c .before .before in
-    let e = p .before .before .before .before .before .before .before in
+    let m = p .before .before .before .before in
+    let e = m .before .before .before in
     let t = e .before in
     let o = t .before .before .before .before .before in
     let h = o .open-rating .ensures .head in
     let a = o .before .before .before .args in
     let s = a .file .now in
     let x = p .put-bills .ensures in (
-      given-says s (passes t) (h .risks) (h .values) (terms-are t) (each o) (a .premiums .now) _ (e .if1 .left) (x .0) (x .1),
-      demanded s (passes t) (h .risks) (h .values) (terms-are t) (each o) (a .premiums .now) _ (e .if1 .left) (x .0) (x .1),
+      given-says s (passes t) (h .risks) (h .values) (terms-are t) (each o) (m .amount-of .ensures) (a .premiums .now) _
+          (e .if1 .left) (x .0) (x .1),
+      demanded s (passes t) (h .risks) (h .values) (terms-are t) (each o) (m .amount-of .ensures) (a .premiums .now) _
+          (e .if1 .left) (x .0) (x .1),
     )
 
 pub rate-spec : {M : Type 1} → statement M
@@ -125,10 +127,10 @@ rate-spec =
     cast-if1
     mul-if1
     returns
-    cast-t19
+    amount-of-requires
     cast-t20
     cast-t21
-    add-t22
+    cast-t22
     put-bills-requires
     returns-2
     same-length

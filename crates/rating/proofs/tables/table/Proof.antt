@@ -81,9 +81,15 @@ mul-half-2 c =
     let o = e .before .before .before .before .before in
     let a = o .before .before .args in
     let l = o .open-losses .ensures in
-    record {
-      fits = tabling.half-fits (a .file .now) (passes (e .before)) (a .r) (e .if1 .left) (l .head .risks) (l .losses .limited) (each o);
-    }
+    omega (arith, tabling.half-fits (a .file .now) (passes (e .before)) (a .r) (e .if1 .left) (l .head .risks) (l .losses .limited) (each o))
+
+mul-divisor : tie.Need-mul-divisor
+mul-divisor c =
+    let e = c .before .before in
+    let o = e .before .before .before .before .before in
+    let a = o .before .before .args in
+    let l = o .open-losses .ensures in
+    omega (arith, tabling.half-fits (a .file .now) (passes (e .before)) (a .r) (e .if1 .left) (l .head .risks) (l .losses .limited) (each o))
 
 -- the numerators
 charge-sum : (c : tie.After-spread-of)
@@ -164,6 +170,7 @@ table-spec =
     cast-half
     mul-half
     mul-half-2
+    mul-divisor
     thousandths-of-requires
     thousandths-of-requires-2
     returns-2
