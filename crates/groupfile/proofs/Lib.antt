@@ -8,3 +8,4 @@ pub mod Puts
 pub mod PutFile
 pub mod Rests
 pub mod WriteQuestions
+pub mod RoundTrip

@@ -13,5 +13,6 @@ pub mod Demand3
 pub mod Decoded
 pub mod Writable
 pub mod RoundTrip
+pub mod Answers
 pub mod Filling
 pub mod Cases

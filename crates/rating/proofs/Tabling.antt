@@ -39,19 +39,26 @@ module _ (s : List ℕ) (r : ℕ) where
 
 -- ---- the numbers, of n risks with limited losses sa in all
 
-module _ (s : List ℕ) (passes : firstNo (lossQuestions s) ≡ passed) (r : ℕ) (hr : r ≤ 600) {n sa : ℕ} {limiteds : List ℕ}
-    (n-is : n ≡ riskCount s) (sa-is : sa ≡ SA (lossesIn s)) (each : limiteds ≡ limitedsOf s) where
+-- what the code has at hand once questions 1 to 10 and 14 have passed
+pub record AtHand (s : List ℕ) (r n sa : ℕ) (limiteds : List ℕ) : Type 0 where
+  pub passes : firstNo (lossQuestions s) ≡ passed
+  pub ratio : r ≤ 600
+  pub n-is : n ≡ riskCount s
+  pub sa-is : sa ≡ SA (lossesIn s)
+  pub each : limiteds ≡ limitedsOf s
+
+module _ {s : List ℕ} {r n sa : ℕ} {limiteds : List ℕ} (x : AtHand s r n sa limiteds) where
   bounds : GroupBounds (headerOf s) (lossesIn s)
-  bounds = group-bounds s (file-sound s (loss-file s passes))
+  bounds = group-bounds s (file-sound s (loss-file s (x .passes)))
 
   count : n ≡ length (lossesIn s)
-  count = n-is ∙ sym (length-losses s)
+  count = x .n-is ∙ sym (length-losses s)
 
   some : 1 ≤ SA (lossesIn s)
-  some = leb-true _ _ (yes-to 10 (lossQuestions s) refl passes)
+  some = leb-true _ _ (yes-to 10 (lossQuestions s) refl (x .passes))
 
   half-is : 50 * n * sa ≡ 50 * length (lossesIn s) * SA (lossesIn s)
-  half-is = ap₂ (λ (x y : ℕ). 50 * x * y) count sa-is
+  half-is = ap₂ (λ (x y : ℕ). 50 * x * y) count (x .sa-is)
 
   divisor-is : 2 * (50 * n * sa) ≡ 100 * length (lossesIn s) * SA (lossesIn s)
   divisor-is = omega (arith, half-is)
@@ -61,22 +68,22 @@ module _ (s : List ℕ) (passes : firstNo (lossQuestions s) ≡ passed) (r : ℕ
 
   pub mark-fits : r * sa < 2 ^ 44
   mark-fits =
-      let most : sa ≤ 16845357375 = omega (arith, sa-is, bounds .limited, bounds .total, bounds .risks) in
-      omega (arith, mul-le-mul hr most)
+      let most : sa ≤ 16845357375 = omega (arith, x .sa-is, bounds .limited, bounds .total, bounds .risks) in
+      omega (arith, mul-le-mul (x .ratio) most)
 
   pub half-fits : 2 * (50 * n * sa) < 2 ^ 64
-  half-fits = omega (arith, half-is, charge-lt (headerOf s) (lossesIn s) bounds r hr)
+  half-fits = omega (arith, half-is, charge-lt (headerOf s) (lossesIn s) bounds r (x .ratio))
 
   pub charge-sum : sumOf (λ a. above (100 * n * a) (r * sa)) limiteds ≡ chargeSum (lossesIn s) r
   unfolding chargeSum
   charge-sum =
-      (λ i. sumOf (λ a. above (100 * count i * a) (r * sa-is i)) (each i))
+      (λ i. sumOf (λ a. above (100 * count i * a) (r * x .sa-is i)) (x .each i))
       ∙ sum-map (λ a. above (100 * length (lossesIn s) * a) (r * SA (lossesIn s))) (λ (x : Losses). x .limited) (lossesIn s)
 
   pub savings-sum : sumOf (λ a. below (100 * n * a) (r * sa)) limiteds ≡ savingsSum (lossesIn s) r
   unfolding savingsSum
   savings-sum =
-      (λ i. sumOf (λ a. below (100 * count i * a) (r * sa-is i)) (each i))
+      (λ i. sumOf (λ a. below (100 * count i * a) (r * x .sa-is i)) (x .each i))
       ∙ sum-map (λ a. below (100 * length (lossesIn s) * a) (r * SA (lossesIn s))) (λ (x : Losses). x .limited) (lossesIn s)
 
   half-some : 0 < 50 * n * sa
@@ -84,26 +91,26 @@ module _ (s : List ℕ) (passes : firstNo (lossQuestions s) ≡ passed) (r : ℕ
       let p : 0 < length (lossesIn s) * SA (lossesIn s) = mul-pos (bounds .sound .risks) some in
       omega (arith, half-is, p)
 
-  pub charge-bounds : {x : ℕ} → x ≡ chargeSum (lossesIn s) r → ThousandthsBounds x (50 * n * sa) (2 * (50 * n * sa))
-  charge-bounds {x} e = record {
+  pub charge-bounds : {v : ℕ} → v ≡ chargeSum (lossesIn s) r → ThousandthsBounds v (50 * n * sa) (2 * (50 * n * sa))
+  charge-bounds {v} e = record {
     halves = refl;
     some = half-some;
-    fits = omega (arith, e, half-is, charge-lt (headerOf s) (lossesIn s) bounds r hr);
-    most = omega (arith, e, divisor-is, charge-le (headerOf s) (lossesIn s) bounds r hr);
+    fits = omega (arith, e, half-is, charge-lt (headerOf s) (lossesIn s) bounds r (x .ratio));
+    most = omega (arith, e, divisor-is, charge-le (headerOf s) (lossesIn s) bounds r (x .ratio));
   }
 
-  pub savings-bounds : {x : ℕ} → x ≡ savingsSum (lossesIn s) r → ThousandthsBounds x (50 * n * sa) (2 * (50 * n * sa))
-  savings-bounds {x} e = record {
+  pub savings-bounds : {v : ℕ} → v ≡ savingsSum (lossesIn s) r → ThousandthsBounds v (50 * n * sa) (2 * (50 * n * sa))
+  savings-bounds {v} e = record {
     halves = refl;
     some = half-some;
-    fits = omega (arith, e, half-is, savings-lt (headerOf s) (lossesIn s) bounds r hr);
-    most = omega (arith, e, divisor-is, savings-le (headerOf s) (lossesIn s) bounds r hr);
+    fits = omega (arith, e, half-is, savings-lt (headerOf s) (lossesIn s) bounds r (x .ratio));
+    most = omega (arith, e, divisor-is, savings-le (headerOf s) (lossesIn s) bounds r (x .ratio));
   }
 
-  pub charge-is : {x : ℕ} → x ≡ chargeSum (lossesIn s) r → nearest (1000 * x) (2 * (50 * n * sa)) ≡ charge (lossesIn s) r
+  pub charge-is : {v : ℕ} → v ≡ chargeSum (lossesIn s) r → nearest (1000 * v) (2 * (50 * n * sa)) ≡ charge (lossesIn s) r
   unfolding charge
-  charge-is e = ap₂ (λ (x d : ℕ). nearest (1000 * x) d) e divisor-is
+  charge-is e = ap₂ (λ (v d : ℕ). nearest (1000 * v) d) e divisor-is
 
-  pub savings-is : {x : ℕ} → x ≡ savingsSum (lossesIn s) r → nearest (1000 * x) (2 * (50 * n * sa)) ≡ savings (lossesIn s) r
+  pub savings-is : {v : ℕ} → v ≡ savingsSum (lossesIn s) r → nearest (1000 * v) (2 * (50 * n * sa)) ≡ savings (lossesIn s) r
   unfolding savings
-  savings-is e = ap₂ (λ (x d : ℕ). nearest (1000 * x) d) e divisor-is
+  savings-is e = ap₂ (λ (v d : ℕ). nearest (1000 * v) d) e divisor-is

@@ -3,13 +3,13 @@
 use mathlib.Core.Path.{_≡_, refl, sym, ap, _∙_, subst}
 use mathlib.Core.List.{List}
 use Prim.Native.Nat.{ℕ}
-use native.Mathlib.Omega.{arith}
 use lib.IntN.{ℤ, pos}
 use lib.ListN.{length}
 use Rattle.plan.specs.Header as plan
 use Rattle.plan.specs.Demand3.{Demand3}
 use Rattle.plan.specs.Calls.{Answer, refused, given, giving, numberAfter, bufferAfter, Rated, rate, Demand3After, Tabled, table}
 use Rattle.plan.specs.Calls.{Group, read, write}
+use Rattle.plan.proofs.Answers.{Gave, giving-refused, giving-given}
 use Rattle.groupfile.specs.Values.{headerIs}
 use Rattle.groupfile.specs.Read.{Heading, headingOf, headingIs, ReadSays}
 use Rattle.groupfile.specs.Write.{lengthIs, WriteSays}
@@ -25,22 +25,6 @@ use Rattle.rating.specs.declared.tables.Tabled.the-variants as tables
 use Rattle.retro_c.specs.Exported.{codeOf, Numbers, numbers, BasicAfter, RateExported, TableExported, GroupIs, ReadExported}
 use Rattle.retro_c.specs.Exported.{WriteExported}
 use Rattle.retro_c.specs.declared.RetroGroup.{RetroGroup}
-
--- ---- a part of an answer tells the answer
-
-giving-refused : {A B : Type 0} (f : A → B) (a : Answer A) {k : ℕ} → refused k ≡ giving f a → a ≡ refused k
-giving-refused f (refused j) e = cc
-giving-refused f (given a) e = cc
-
--- what was given, of which a part is known
-record Gave {A B : Type 0} (f : A → B) (a : Answer A) (b : B) : Type 0 where
-  value : A
-  is : a ≡ given value
-  part : f value ≡ b
-
-giving-given : {A B : Type 0} (f : A → B) (a : Answer A) {b : B} → given b ≡ giving f a → Gave f a b
-giving-given f (refused j) {b} e = let z : _≡_ {A = ℕ} 0 1 = cc in absurd (omega arith)
-giving-given f (given a) {b} e = record { value = a; is = refl; part = cc }
 
 -- ---- Rate
 

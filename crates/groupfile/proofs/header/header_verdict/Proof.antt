@@ -1,10 +1,13 @@
 -- `groupfile::header::header_verdict` meets its contract: at each return, the tests on the way are the answers to the questions
 -- so far. Assumes nothing.
 use mathlib.Core.Path.{_≡_, sym, _∙_}
-use mathlib.Core.Bool.{Bool, true, false, not}
+use mathlib.Core.Bool.{Bool, true, false, not, _&&_}
+use mathlib.Core.List.{[], _∷_}
 use borrow.Author.Tests.{not-true, not-false, le-leb, lt-leb}
 use borrow.Author.Needs.{needs}
-use Rattle.groupfile.specs.Values.{between}
+use lib.Dec.{leb}
+use Rattle.plan.specs.Questions.{ask, firstNo, headerQuestions}
+use Rattle.groupfile.specs.Values.{headerIs, between}
 use Rattle.groupfile.proofs.header.header_verdict.Statement.{statement}
 use Rattle.groupfile.proofs.header.header_verdict.Tie as tie
 
@@ -41,63 +44,41 @@ returns-3 c =
       outside (c .before .in-range2 .ensures) (c .if3 .taken),
     )
 
-returns-4 : tie.Need-returns-4
+-- past question 5, the marks and n are left
+past-five : (c : tie.Else3)
+    → let a = c .before .before .before .before .before .before .args in
+    firstNo (headerQuestions (headerIs (a .h)) (a .risks))
+        ≡ firstNo (ask 6 (leb (a .h .«maximum_mark») 6000 && leb (a .h .«minimum_mark») 6000) ∷ ask 7 (leb 1 (a .risks)) ∷ [])
 unfolding between
-returns-4 c =
-    let c3 = c .before .before in
-    let c2 = c3 .before .before in
+past-five c =
+    let c2 = c .before .before in
     simp (
       le-leb _ _ (c2 .before .before .if1 .left),
       inside (c2 .before .in-range .ensures) (c2 .if2 .left),
-      inside (c3 .before .in-range2 .ensures) (c3 .if3 .left),
-      lt-leb _ _ (c .if4 .taken),
+      inside (c .before .in-range2 .ensures) (c .if3 .left),
     )
+
+returns-4 : tie.Need-returns-4
+returns-4 c = sym (past-five (c .before .before) ∙ simp (lt-leb _ _ (c .if4 .taken)))
 
 returns-5 : tie.Need-returns-5
-unfolding between
 returns-5 c =
     let c4 = c .before .before in
-    let c3 = c4 .before .before in
-    let c2 = c3 .before .before in
-    simp (
-      le-leb _ _ (c2 .before .before .if1 .left),
-      inside (c2 .before .in-range .ensures) (c2 .if2 .left),
-      inside (c3 .before .in-range2 .ensures) (c3 .if3 .left),
-      le-leb _ _ (c4 .if4 .left),
-      lt-leb _ _ (c .if5 .taken),
-    )
+    sym (past-five (c4 .before .before) ∙ simp (le-leb _ _ (c4 .if4 .left), lt-leb _ _ (c .if5 .taken)))
 
 returns-6 : tie.Need-returns-6
-unfolding between
 returns-6 c =
     let c5 = c .before in
     let c4 = c5 .before .before in
-    let c3 = c4 .before .before in
-    let c2 = c3 .before .before in
-    simp (
-      le-leb _ _ (c2 .before .before .if1 .left),
-      inside (c2 .before .in-range .ensures) (c2 .if2 .left),
-      inside (c3 .before .in-range2 .ensures) (c3 .if3 .left),
-      le-leb _ _ (c4 .if4 .left),
-      le-leb _ _ (c5 .if5 .left),
-      lt-leb _ _ (c .if6 .taken),
-    )
+    sym (past-five (c4 .before .before)
+    ∙ simp (le-leb _ _ (c4 .if4 .left), le-leb _ _ (c5 .if5 .left), lt-leb _ _ (c .if6 .taken)))
 
 returns-7 : tie.Need-returns-7
-unfolding between
 returns-7 c =
     let c5 = c .before in
     let c4 = c5 .before .before in
-    let c3 = c4 .before .before in
-    let c2 = c3 .before .before in
-    simp (
-      le-leb _ _ (c2 .before .before .if1 .left),
-      inside (c2 .before .in-range .ensures) (c2 .if2 .left),
-      inside (c3 .before .in-range2 .ensures) (c3 .if3 .left),
-      le-leb _ _ (c4 .if4 .left),
-      le-leb _ _ (c5 .if5 .left),
-      le-leb _ _ (c .if6 .left),
-    )
+    sym (past-five (c4 .before .before)
+    ∙ simp (le-leb _ _ (c4 .if4 .left), le-leb _ _ (c5 .if5 .left), le-leb _ _ (c .if6 .left)))
 
 pub header-verdict-spec : {M : Type 1} → statement M
 header-verdict-spec =

@@ -12,7 +12,8 @@ use Rattle.plan.specs.Table.{chargeSum, savingsSum}
 use Rattle.groupfile.specs.Values.{verdictIs}
 use Rattle.groupfile.specs.declared.header.Verdict.the-variants.{Passed, Failed}
 use Rattle.rating.proofs.Group.{limitedsOf}
-use Rattle.rating.proofs.Tabling as tabling
+use Rattle.rating.proofs.Tabling.{AtHand, gate-failed, ratio-too-large, tabled, risks-few, mark-fits, half-fits, charge-sum}
+use Rattle.rating.proofs.Tabling.{savings-sum, charge-bounds, savings-bounds, charge-is, savings-is}
 use Rattle.rating.proofs.tables.table.Statement.{statement}
 use Rattle.rating.proofs.tables.table.Tie as tie
 
@@ -32,26 +33,31 @@ passes c =
     let e : o .open-losses .result .verdict ≡ Passed = cc in
     sym (o .open-losses .ensures .verdict) ∙ ap verdictIs e
 
-each : (c : tie.After-open-losses)
-    → let r = c .open-losses .result in
-    take (r .head .risks) (r .losses .limiteds) ≡ limitedsOf (c .before .before .args .file .now)
-each c =
-    let r = c .open-losses .result in
-    ap (λ (n : ℕ). take n (r .losses .limiteds)) (c .open-losses .ensures .head .risks) ∙ c .open-losses .ensures .losses .limiteds
+-- what is at hand past question 14
+at-hand : (c : tie.Else1)
+    → let o = c .before .before .before .before .before in
+    let a = o .before .before .args in
+    let l = o .open-losses .result in
+    AtHand (a .file .now) (a .r) (l .head .risks) (l .losses .limited) (take (l .head .risks) (l .losses .limiteds))
+at-hand c =
+    let o = c .before .before .before .before .before in
+    let l = o .open-losses .ensures in
+    record {
+      passes = passes (c .before);
+      ratio = c .if1 .left;
+      n-is = l .head .risks;
+      sa-is = l .losses .limited;
+      each = ap (λ (n : ℕ). take n (o .open-losses .result .losses .limiteds)) (l .head .risks) ∙ l .losses .limiteds;
+    }
 
 returns : tie.Need-returns
 returns c =
     let o = c .before .before .before .before .before in
     let a = o .before .before .args in
-    tabling.ratio-too-large (a .file .now) (a .r) (passes (c .before)) (c .if1 .taken)
+    ratio-too-large (a .file .now) (a .r) (passes (c .before)) (c .if1 .taken)
 
 mul-mark : tie.Need-mul-mark
-mul-mark c =
-    let e = c .before in
-    let o = e .before .before .before .before .before in
-    let a = o .before .before .args in
-    let l = o .open-losses .ensures in
-    omega (arith, tabling.mark-fits (a .file .now) (passes (e .before)) (a .r) (e .if1 .left) (l .head .risks) (l .losses .limited) (each o))
+mul-mark c = omega (arith, mark-fits (at-hand (c .before)))
 
 cast-spread-of : tie.Need-cast-spread-of
 cast-spread-of c = search needs
@@ -61,13 +67,7 @@ mul-spread-of c = search needs
 
 spread-of-requires : tie.Need-spread-of-requires
 spread-of-requires c κs =
-    let e = c .before in
-    let o = e .before .before .before .before .before in
-    let a = o .before .before .args in
-    let l = o .open-losses .ensures in
-    let few = tabling.risks-few (a .file .now) (passes (e .before)) (a .r) (e .if1 .left) (l .head .risks) (l .losses .limited) (each o) in
-    let mark = tabling.mark-fits (a .file .now) (passes (e .before)) (a .r) (e .if1 .left) (l .head .risks) (l .losses .limited) (each o) in
-    (few, omega (arith, few), mark, mark)
+    let x = at-hand (c .before) in (risks-few x, omega (arith, risks-few x), mark-fits x, mark-fits x)
 
 cast-half : tie.Need-cast-half
 cast-half c = search needs
@@ -76,84 +76,43 @@ mul-half : tie.Need-mul-half
 mul-half c = search needs
 
 mul-half-2 : tie.Need-mul-half-2
-mul-half-2 c =
-    let e = c .before .before in
-    let o = e .before .before .before .before .before in
-    let a = o .before .before .args in
-    let l = o .open-losses .ensures in
-    omega (arith, tabling.half-fits (a .file .now) (passes (e .before)) (a .r) (e .if1 .left) (l .head .risks) (l .losses .limited) (each o))
+mul-half-2 c = omega (arith, half-fits (at-hand (c .before .before)))
 
 mul-divisor : tie.Need-mul-divisor
-mul-divisor c =
-    let e = c .before .before in
-    let o = e .before .before .before .before .before in
-    let a = o .before .before .args in
-    let l = o .open-losses .ensures in
-    omega (arith, tabling.half-fits (a .file .now) (passes (e .before)) (a .r) (e .if1 .left) (l .head .risks) (l .losses .limited) (each o))
+mul-divisor c = omega (arith, half-fits (at-hand (c .before .before)))
 
 -- the numerators
-charge-sum : (c : tie.After-spread-of)
+above-is : (c : tie.After-spread-of)
     → let a = c .before .before .before .before .before .before .before .before .before .args in
     c .spread-of .result .above ≡ chargeSum (lossesIn (a .file .now)) (a .r)
-charge-sum c =
-    let e = c .before .before in
-    let o = e .before .before .before .before .before in
-    let a = o .before .before .args in
-    let l = o .open-losses .ensures in
-    c .spread-of .ensures .above-is
-    ∙ tabling.charge-sum (a .file .now) (passes (e .before)) (a .r) (e .if1 .left) (l .head .risks) (l .losses .limited) (each o)
+above-is c = c .spread-of .ensures .above-is ∙ charge-sum (at-hand (c .before .before))
 
-savings-sum : (c : tie.After-spread-of)
+below-is : (c : tie.After-spread-of)
     → let a = c .before .before .before .before .before .before .before .before .before .args in
     c .spread-of .result .below ≡ savingsSum (lossesIn (a .file .now)) (a .r)
-savings-sum c =
-    let e = c .before .before in
-    let o = e .before .before .before .before .before in
-    let a = o .before .before .args in
-    let l = o .open-losses .ensures in
-    c .spread-of .ensures .below-is
-    ∙ tabling.savings-sum (a .file .now) (passes (e .before)) (a .r) (e .if1 .left) (l .head .risks) (l .losses .limited) (each o)
+below-is c = c .spread-of .ensures .below-is ∙ savings-sum (at-hand (c .before .before))
 
 thousandths-of-requires : tie.Need-thousandths-of-requires
-thousandths-of-requires c κs =
-    let e = c .before .before in
-    let o = e .before .before .before .before .before in
-    let a = o .before .before .args in
-    let l = o .open-losses .ensures in
-    tabling.charge-bounds (a .file .now) (passes (e .before)) (a .r) (e .if1 .left) (l .head .risks) (l .losses .limited) (each o)
-    (charge-sum c)
+thousandths-of-requires c κs = charge-bounds (at-hand (c .before .before)) (above-is c)
 
 thousandths-of-requires-2 : tie.Need-thousandths-of-requires-2
-thousandths-of-requires-2 c κs =
-    let e = c .before .before .before in
-    let o = e .before .before .before .before .before in
-    let a = o .before .before .args in
-    let l = o .open-losses .ensures in
-    tabling.savings-bounds (a .file .now) (passes (e .before)) (a .r) (e .if1 .left) (l .head .risks) (l .losses .limited) (each o)
-    (savings-sum (c .before))
+thousandths-of-requires-2 c κs = savings-bounds (at-hand (c .before .before .before)) (below-is (c .before))
 
 returns-2 : tie.Need-returns-2
 returns-2 c =
     let o = c .before .before .before .before .before in
     let a = o .before .before .args in
     let e : o .open-losses .result .verdict ≡ Failed (c .before .verdict .given .0 .0) = cc in
-    tabling.gate-failed (a .file .now) (a .r) (sym (o .open-losses .ensures .verdict) ∙ ap verdictIs e)
+    gate-failed (a .file .now) (a .r) (sym (o .open-losses .ensures .verdict) ∙ ap verdictIs e)
 
 returns-3 : tie.Need-returns-3
 returns-3 c =
     let s = c .before .before in
-    let e = s .before .before in
-    let o = e .before .before .before .before .before in
-    let a = o .before .before .args in
-    let l = o .open-losses .ensures in
-    let f = a .file .now in
-    let x =
-    c .before .thousandths-of .ensures
-    ∙ tabling.charge-is f (passes (e .before)) (a .r) (e .if1 .left) (l .head .risks) (l .losses .limited) (each o) (charge-sum s) in
-    let y =
-    c .thousandths-of2 .ensures
-    ∙ tabling.savings-is f (passes (e .before)) (a .r) (e .if1 .left) (l .head .risks) (l .losses .limited) (each o) (savings-sum s) in
-    (λ i. given (record { charge = x i; savings = y i })) ∙ tabling.tabled f (a .r) (passes (e .before)) (e .if1 .left)
+    let x = at-hand (s .before .before) in
+    let a = s .before .before .before .before .before .before .before .before .before .args in
+    let v = c .before .thousandths-of .ensures ∙ charge-is x (above-is s) in
+    let w = c .thousandths-of2 .ensures ∙ savings-is x (below-is s) in
+    (λ i. given (record { charge = v i; savings = w i })) ∙ tabled (a .file .now) (a .r) (x .passes) (x .ratio)
 
 pub table-spec : {M : Type 1} → statement M
 table-spec =
