@@ -96,7 +96,7 @@ module _ (h : Header) (counts claims old new : List ℕ) (n : ℕ) (was-written 
       → length counts ≤ length oldCounts → length claims ≤ length oldClaims
       → ReadSays (take n new) oldCounts oldClaims r counts′ claims′
       → (headingIs r ≡ given (record { risks = length counts; header = headerIs h }))
-          × (counts′ ≡ filled counts oldCounts) × (claims′ ≡ filled claims oldClaims)
+      × (counts′ ≡ filled counts oldCounts) × (claims′ ≡ filled claims oldClaims)
   write-then-read oldCounts oldClaims counts′ claims′ r enough-counts enough-claims says =
       let back : read (take n new) (length oldCounts) (length oldClaims) ≡ given (groupOf h counts claims) =
       ap (λ (b : List ℕ). read b (length oldCounts) (length oldClaims)) file-is

@@ -48,7 +48,7 @@ returns-3 c =
 past-five : (c : tie.Else3)
     → let a = c .before .before .before .before .before .before .args in
     firstNo (headerQuestions (headerIs (a .h)) (a .risks))
-        ≡ firstNo (ask 6 (leb (a .h .«maximum_mark») 6000 && leb (a .h .«minimum_mark») 6000) ∷ ask 7 (leb 1 (a .risks)) ∷ [])
+    ≡ firstNo (ask 6 (leb (a .h .«maximum_mark») 6000 && leb (a .h .«minimum_mark») 6000) ∷ ask 7 (leb 1 (a .risks)) ∷ [])
 unfolding between
 past-five c =
     let c2 = c .before .before in
