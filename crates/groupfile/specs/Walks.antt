@@ -1,7 +1,7 @@
 -- What the walk over a file's claims gives.
 use mathlib.Core.Path.{_≡_}
 use mathlib.Core.List.{List, map}
-use Prim.Native.Nat.{ℕ}
+use Prim.Native.Nat.{ℕ, _+_, _*_}
 use lib.ListN.{length, take}
 use Rattle.plan.specs.Arithmetic.{sum, sumOf}
 use Rattle.plan.specs.Field.{fields}
@@ -16,10 +16,12 @@ use Rattle.groupfile.specs.declared.walk.GroupLosses.{GroupLosses}
 abbrev pub lossesAre : Losses → plan.Losses
 lossesAre r = record { total = r .total; limited = r .limited }
 
--- L and A of k claims from the place `at` on
-pub record LossesAre (s : List ℕ) (at k limit : ℕ) (r : Losses) : Type 0 where
-  pub total : r .total ≡ sum (fields s at claimWidth k)
-  pub limited : r .limited ≡ sumOf (limitedTo limit) (fields s at claimWidth k)
+-- a risk whose k claims lie from the place `at` on: L, A, and the place after them
+pub record ClaimsAre (s : List ℕ) (at k limit : ℕ) (r : Risk) : Type 0 where
+  pub count : r .count ≡ k
+  pub total : r .losses .total ≡ sum (fields s at claimWidth k)
+  pub limited : r .losses .limited ≡ sumOf (limitedTo limit) (fields s at claimWidth k)
+  pub next : r .next .at ≡ at + claimWidth * k
 
 -- the risk that begins at the place `at`
 pub record RiskIs (s : List ℕ) (at limit : ℕ) (r : Risk) : Type 0 where

@@ -3,7 +3,7 @@
 ghost use mathlib.Core.Path.{_≡_};
 ghost use Prim.Native.Nat.{_≤_};
 ghost use Rattle.plan.specs.Losses.{limitedTo};
-ghost use Rattle.groupfile.specs.Walks.{LossesAre, RiskIs, WalkIs};
+ghost use Rattle.groupfile.specs.Walks.{ClaimsAre, RiskIs, WalkIs};
 use bits::BitPlace;
 
 // A risk's losses: L and A.
@@ -39,10 +39,10 @@ fn limited_to(limit: u32, claim: u32) -> u32
     if claim < limit { claim } else { limit }
 }
 
-// L and A of the claims, as many as `count`, from a place on.
-fn losses_at(file: &[u8], place: BitPlace, count: u32, limit: u32) -> Losses
+// The risk whose claims, as many as `count`, lie from a place on.
+fn claims_at(file: &[u8], place: BitPlace, count: u32, limit: u32) -> Risk
     requires { ⌜ (count ≤ 63) × (place .at ≤ 322958) ⌝ }
-    ensures { λ r. ⌜ LossesAre (now (file .entry)) (place .at) count limit r ⌝ }
+    ensures { λ r. ⌜ ClaimsAre (now (file .entry)) (place .at) count limit r ⌝ }
 {
     let mut total: u32 = 0;
     let mut limited: u32 = 0;
@@ -55,7 +55,11 @@ fn losses_at(file: &[u8], place: BitPlace, count: u32, limit: u32) -> Losses
         next = claim.next;
         i += 1;
     }
-    Losses { total, limited }
+    Risk {
+        count,
+        losses: Losses { total, limited },
+        next,
+    }
 }
 
 // The risk that begins at a place.
@@ -64,16 +68,7 @@ fn risk_at(file: &[u8], place: BitPlace, limit: u32) -> Risk
     ensures { λ r. ⌜ RiskIs (now (file .entry)) (place .at) limit r ⌝ }
 {
     let count = place.take(file, 6);
-    let k = count.value;
-    let losses = losses_at(file, count.next, k, limit);
-    let at = count.next.at;
-    Risk {
-        count: k,
-        losses,
-        next: BitPlace {
-            at: at + 20 * k as usize,
-        },
-    }
+    claims_at(file, count.next, count.value, limit)
 }
 
 // The walk over so many risks, which begin where the header ends.

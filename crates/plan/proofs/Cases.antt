@@ -122,7 +122,8 @@ abbrev lh : List ℕ → ℕ
 lh s = LH (headerOf s) (lossesIn s)
 
 -- the group of four, as `retro` prints it: 'group 4 6700000 3300000 33600', then risk number, L, A, K and premium
-fourCase :
+abbrev FourCase : Type 0
+FourCase =
     Written four fourFile
     × (rate fourFile 16 ≡ rates 4 (pos 6700000) 3300000 33600 (4935 ∷ 7245 ∷ 8400 ∷ 13020 ∷ []))
     × (totals fourFile ≡ 0 ∷ 4000 ∷ 7000 ∷ 13000 ∷ [])
@@ -133,22 +134,28 @@ fourCase :
     × (read fourFile 4 6 ≡ given four)
     × (write four 34 ≡ given fourFile)
     × (rate fourFile 15 ≡ refused 13)
+
+fourCase : FourCase
 unfolding bytesOf number bit field LG LH SX SS ratable basicPremium excessCharge nearest billRounding unrounded billedPremium ratedOf rate taxedExpensesAndLosses read write
 fourCase = (refl, refl, refl, refl, refl, refl, refl, refl, refl)
 
 -- 'Table on it: r 0 gives 1000 and 0; r 100 gives 321 and 321; r 200 gives 71 and 1071; r 300 gives 0 and 2000.' And r 25, where
 -- 812.5 and 62.5 thousandths are exact halves
-tableCase :
+abbrev TableCase : Type 0
+TableCase =
     (table fourFile 0 ≡ tables 1000 0)
     × (table fourFile 100 ≡ tables 321 321)
     × (table fourFile 200 ≡ tables 71 1071)
     × (table fourFile 300 ≡ tables 0 2000)
     × (table fourFile 25 ≡ tables 813 63)
+
+tableCase : TableCase
 unfolding number bit field nearest chargeSum savingsSum charge savings table
 tableCase = (refl, refl, refl, refl, refl)
 
 -- the other groups
-otherCases :
+abbrev OtherCases : Type 0
+OtherCases =
     -- 'LG is 0, M is 1,000, billed 0, 0, 0'
     Written thirds thirdsFile
     × (lg thirdsFile ≡ 0)
@@ -173,6 +180,12 @@ otherCases :
     × Written limits limitsFile
     × (limiteds limitsFile ≡ 5000 ∷ 5000 ∷ [])
     × (lg limitsFile ≡ 30000)
+
+otherCases : OtherCases
 unfolding bytesOf number bit field LG LH SX SS ratable basicPremium excessCharge nearest billRounding unrounded billedPremium ratedOf rate taxedExpensesAndLosses
 otherCases =
     (refl, refl, refl, refl, refl, refl, refl, refl, refl, refl, refl, refl, refl, refl, refl, refl, refl, refl, refl)
+
+-- all of them: 'gathered as one checked list'
+pub provedCases : FourCase × TableCase × OtherCases
+provedCases = (fourCase, tableCase, otherCases)

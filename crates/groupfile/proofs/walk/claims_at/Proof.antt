@@ -1,6 +1,6 @@
--- `groupfile::walk::losses_at` meets its contract. The invariant: the sums so far and those of the claims to come are the sums
+-- `groupfile::walk::claims_at` meets its contract. The invariant: the sums so far and those of the claims to come are the sums
 -- of all. The measure is the claims to come. Assumes nothing.
-use mathlib.Core.Path.{_≡_, sym, ap, _∙_}
+use mathlib.Core.Path.{_≡_, refl, sym, ap, _∙_}
 use Prim.Native.Nat.{ℕ, _+_, _-_, _*_, _≤_}
 use native.Mathlib.Omega.{arith}
 use borrow.Author.Needs.{needs}
@@ -9,8 +9,8 @@ use Rattle.plan.specs.Losses.{limitedTo}
 use Rattle.plan.proofs.Fields.{field-lt}
 use Rattle.plan.proofs.Sizes.{limited-le}
 use Rattle.groupfile.proofs.Walking.{Summing, summing-starts, summing-taken, summing-ends}
-use Rattle.groupfile.proofs.walk.losses_at.Statement.{statement}
-use Rattle.groupfile.proofs.walk.losses_at.Tie as tie
+use Rattle.groupfile.proofs.walk.claims_at.Statement.{statement}
+use Rattle.groupfile.proofs.walk.claims_at.Tie as tie
 
 abbrev Inv-loop : tie.InvT-loop
 Inv-loop file count limit total₀ limited₀ next₀ i₀ total limited next i =
@@ -60,11 +60,12 @@ loop-again c =
 
 returns : tie.Need-returns Inv-loop μ-loop
 returns c =
-    let e = summing-ends (c .before .loop .inv) (c .loop-test .left) in
-    record { total = e .0; limited = e .1 }
+    let w = c .before .loop .inv in
+    let e = summing-ends w (c .loop-test .left) in
+    record { count = refl; total = e .0; limited = e .1; next = omega (arith, w .place, w .within, c .loop-test .left) }
 
-pub losses-at-spec : {M : Type 1} → statement M
-losses-at-spec =
+pub claims-at-spec : {M : Type 1} → statement M
+claims-at-spec =
     tie.close
     (tie.spec
     Inv-loop
