@@ -195,18 +195,23 @@ fn four_risks() {
     table_four(file);
 }
 
-// Three risks with one claim of 1: rated, with a fill bit set, and with the claim 0.
-fn three_risks() {
-    let h = Header {
+// A header without limit or expenses, c 1.000, T 1.0000, and entry ratio marks of which the minimum is 0.
+fn smallest(maximum_mark: u32) -> Header {
+    Header {
         loss_limit: 0,
         standard_premium: 1,
         expense: 0,
         conversion: 1000,
         tax: 10000,
         mark_kind: 1,
-        maximum_mark: 1000,
+        maximum_mark,
         minimum_mark: 0,
-    };
+    }
+}
+
+// Three risks with one claim of 1: rated, with a fill bit set, and with the claim 0.
+fn three_risks() {
+    let h = smallest(1000);
     let mut out = [0u8; 21];
     let mut premiums = [7u8; 12];
     show_write(b"three, claim 0", h, &[1, 0, 0], &[0], &mut out);
@@ -258,16 +263,7 @@ fn rate_ten(file: &[u8]) {
 
 // What Write refuses: a claim of 2^20, a mark kind 2, counts that do not add, no counts, room one byte short.
 fn refused_values() {
-    let h = Header {
-        loss_limit: 0,
-        standard_premium: 1,
-        expense: 0,
-        conversion: 1000,
-        tax: 10000,
-        mark_kind: 1,
-        maximum_mark: 6000,
-        minimum_mark: 0,
-    };
+    let h = smallest(6000);
     let mut kind = h;
     kind.mark_kind = 2;
     let mut out = [0u8; 23];

@@ -1,0 +1,167 @@
+/*
+ * retro.h: retrospective premiums balanced on a group's own Table M.
+ *
+ * A group file holds one size group: 1 to 255 risks with the same standard premium, each with 0 to
+ * 63 claims. The calls rate such a file (retro_rate), give the group's charge and savings at an
+ * entry ratio (retro_table), take a file apart (retro_read) and make one (retro_write).
+ *
+ * Building
+ *
+ * The header is C11 and C++11; the library is for x86-64 Linux and needs the C library alone.
+ *
+ *     rt staticlib retro_c
+ *     cc -Iinclude billing.c target/staticlib/libretro_c.a -o billing
+ *
+ * Answers
+ *
+ * Each call answers 0 when it has a result, else the number of the first question that is answered
+ * No. No refusal has another cause. After a refusal every buffer and every number that was lent
+ * holds what it held before the call.
+ *
+ *      1  Has the file at least 16 bytes?
+ *      2  Is the edition 1 and the spare bit 0?
+ *      3  Is the standard premium at least 1?
+ *      4  Is the loss conversion factor from 1,000 to 2,000 thousandths?
+ *      5  Is the tax multiplier from 10,000 to 20,000 ten-thousandths?
+ *      6  Are both marks at most 6,000 thousandths?
+ *      7  Is the number of risks at least 1?
+ *      8  Does the file end with the byte that holds the last claim or count?
+ *      9  Are the bits that fill its last byte zero?
+ *     10  Is the group's sum of limited losses at least 1?
+ *     11  Is the minimum mark in whole dollars at most the maximum mark in whole dollars?
+ *     12  Is the balanced basic premium at least 0?
+ *     13  Is each lent buffer long enough?
+ *     14  Is the entry ratio at most 600 hundredths?
+ *     15  Do the number of risks, the counts, the claims and the header values fit their widths in
+ *         the file, and do the counts add to the number of claims?
+ *
+ *     retro_rate   asks 1 to 13
+ *     retro_table  asks 1 to 10, then 14
+ *     retro_read   asks 1 to 9, then 13
+ *     retro_write  asks 3 to 7, then 15, then 13
+ *
+ * Memory
+ *
+ * The caller owns all memory. A call allocates nothing and keeps no pointer after it returns.
+ *
+ * A slice is a pointer and a count of elements. Its pointer may be null where the count is 0. Every
+ * other pointer, also that to a number, must be aligned for its type and point to as many elements
+ * as the count says, readable ones, and writable ones where it is not to const. This alone is not
+ * checked. Bytes, counts, claims and values of any kind are answered.
+ *
+ * What a call writes must not overlap with anything else that the same call is given.
+ *
+ * A call needs less than 16 KiB of stack.
+ *
+ * Threads
+ *
+ * The calls have no state. Any number of threads may call at the same time, also on the same file,
+ * as long as no thread writes what another thread's call is given.
+ */
+#ifndef RETRO_H
+#define RETRO_H
+
+#include <stddef.h>
+#include <stdint.h>
+
+#ifdef __cplusplus
+extern "C" {
+#endif
+
+/* The most risks and the most claims of a group, and the length in bytes of the largest file. */
+#define RETRO_MOST_RISKS 255
+#define RETRO_MOST_CLAIMS 16065
+#define RETRO_LARGEST_FILE 40370
+
+/* The header values of a group file, in file order, each with what retro_write takes. */
+typedef struct retro_header {
+    uint32_t loss_limit;       /* dollars per claim, 0 for no limit; at most 1,048,575 */
+    uint32_t standard_premium; /* dollars; 1 to 4,194,303 */
+    uint32_t expense;          /* expense provision per risk without taxes, dollars; to 1,048,575 */
+    uint32_t conversion;       /* loss conversion factor, thousandths; 1,000 to 2,000 */
+    uint32_t tax;              /* tax multiplier, ten-thousandths; 10,000 to 20,000 */
+    uint32_t mark_kind;        /* 0: the marks are loss ratios, to the standard premium;
+                                  1: they are entry ratios, to the group's mean limited losses */
+    uint32_t maximum_mark;     /* thousandths; at most 6,000 */
+    uint32_t minimum_mark;     /* thousandths; at most 6,000 */
+} retro_header;
+
+/* What retro_read answers. Where `refused` is not 0, all else is 0. */
+typedef struct retro_group {
+    uint32_t refused; /* 0, or the number of the first question answered No */
+    uint32_t risks;   /* the number of risks */
+    uint32_t loss_limit;
+    uint32_t standard_premium;
+    uint32_t expense;
+    uint32_t conversion;
+    uint32_t tax;
+    uint32_t mark_kind;
+    uint32_t maximum_mark;
+    uint32_t minimum_mark;
+} retro_group;
+
+/*
+ * Rates a group file.
+ *
+ *     premiums  gets the billed premium of each risk in file order, in whole dollars, as four bytes
+ *               with the most significant first. Four bytes for each risk are enough, so
+ *               4 * RETRO_MOST_RISKS always are. Later bytes keep their contents.
+ *     risks     gets the number of risks.
+ *     basic     gets the balanced basic premium of the whole group in thousandths of a dollar.
+ *     excess    gets the excess loss charge of the whole group in thousandths of a dollar.
+ *     billed    gets the sum of the billed premiums in dollars.
+ *
+ * Premium k, counted from 0, is
+ *
+ *     (uint32_t)premiums[4 * k] << 24 | (uint32_t)premiums[4 * k + 1] << 16
+ *         | (uint32_t)premiums[4 * k + 2] << 8 | (uint32_t)premiums[4 * k + 3]
+ */
+uint32_t retro_rate(const uint8_t *file, size_t file_len, uint8_t *premiums, size_t premiums_len,
+                    uint32_t *risks, uint64_t *basic, uint64_t *excess, uint64_t *billed);
+
+/*
+ * Gives the charge and the savings of a group's own Table M at an entry ratio.
+ *
+ *     entry_ratio  is in hundredths, 0 to 600.
+ *     charge       gets the charge in thousandths: what the risks' limited losses have above that
+ *                  ratio of their mean, as a part of all limited losses.
+ *     savings      gets the savings in thousandths: what they lack below it.
+ */
+uint32_t retro_table(const uint8_t *file, size_t file_len, uint32_t entry_ratio, uint32_t *charge,
+                     uint32_t *savings);
+
+/*
+ * Takes a group file apart. The answer has the number of risks and the header values.
+ *
+ *     counts  gets the number of claims of each risk in file order.
+ *     claims  gets all claims in dollars: those of the first risk, then those of the second, and so
+ *             on. claims_len counts numbers, not bytes.
+ *
+ * As many entries as there are risks and claims are enough, so RETRO_MOST_RISKS counts and
+ * RETRO_MOST_CLAIMS claims always are. Later entries keep their contents.
+ */
+retro_group retro_read(const uint8_t *file, size_t file_len, uint8_t *counts, size_t counts_len,
+                       uint32_t *claims, size_t claims_len);
+
+/*
+ * Makes a group file, of which retro_read gives the same values back.
+ *
+ *     header  has the header values. Edition and spare bit are written as 1 and 0.
+ *     counts  has the number of claims of each risk, 0 to 63. There are as many risks as counts, 1
+ *             to 255.
+ *     claims  has all claims in dollars in the order of retro_read, each at most 1,048,575.
+ *     file    gets the file's bytes. RETRO_LARGEST_FILE bytes are always enough. Bytes after the
+ *             file keep their contents.
+ *     length  gets the number of bytes of the file.
+ *
+ * The file may yet be refused with 10, 11 or 12 by retro_rate, and with 10 by retro_table.
+ */
+uint32_t retro_write(retro_header header, const uint8_t *counts, size_t counts_len,
+                     const uint32_t *claims, size_t claims_len, uint8_t *file, size_t file_len,
+                     size_t *length);
+
+#ifdef __cplusplus
+}
+#endif
+
+#endif

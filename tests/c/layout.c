@@ -1,0 +1,37 @@
+/* The names, types and layouts that retro.h promises, checked as C11 and as C++ when compiled. */
+#include "retro.h"
+
+#ifndef __cplusplus
+#define static_assert _Static_assert
+#endif
+
+static_assert(sizeof(retro_header) == 32, "eight numbers of 32 bits");
+static_assert(offsetof(retro_header, loss_limit) == 0, "first");
+static_assert(offsetof(retro_header, standard_premium) == 4, "second");
+static_assert(offsetof(retro_header, expense) == 8, "third");
+static_assert(offsetof(retro_header, conversion) == 12, "fourth");
+static_assert(offsetof(retro_header, tax) == 16, "fifth");
+static_assert(offsetof(retro_header, mark_kind) == 20, "sixth");
+static_assert(offsetof(retro_header, maximum_mark) == 24, "seventh");
+static_assert(offsetof(retro_header, minimum_mark) == 28, "eighth");
+
+static_assert(sizeof(retro_group) == 40, "ten numbers of 32 bits");
+static_assert(offsetof(retro_group, refused) == 0, "first");
+static_assert(offsetof(retro_group, risks) == 4, "second");
+static_assert(offsetof(retro_group, loss_limit) == 8, "third");
+static_assert(offsetof(retro_group, standard_premium) == 12, "fourth");
+static_assert(offsetof(retro_group, expense) == 16, "fifth");
+static_assert(offsetof(retro_group, conversion) == 20, "sixth");
+static_assert(offsetof(retro_group, tax) == 24, "seventh");
+static_assert(offsetof(retro_group, mark_kind) == 28, "eighth");
+static_assert(offsetof(retro_group, maximum_mark) == 32, "ninth");
+static_assert(offsetof(retro_group, minimum_mark) == 36, "tenth");
+
+/* The calls as pointers of exactly these types. */
+uint32_t (*const rate)(const uint8_t *, size_t, uint8_t *, size_t, uint32_t *, uint64_t *,
+                       uint64_t *, uint64_t *) = retro_rate;
+uint32_t (*const table)(const uint8_t *, size_t, uint32_t, uint32_t *, uint32_t *) = retro_table;
+retro_group (*const take)(const uint8_t *, size_t, uint8_t *, size_t, uint32_t *,
+                          size_t) = retro_read;
+uint32_t (*const make)(retro_header, const uint8_t *, size_t, const uint32_t *, size_t, uint8_t *,
+                       size_t, size_t *) = retro_write;

@@ -1,0 +1,203 @@
+//! The exported calls of libretro_c.a. What each gives is said in include/retro.h.
+//!
+//! A slice is handed over as a pointer and a count; Rust's borrows keep the parts that a call
+//! writes from overlapping.
+
+use crate::second;
+
+/// The header values in file order, loss limit to minimum mark.
+#[repr(C)]
+#[derive(Clone, Copy, Debug, Default, PartialEq, Eq)]
+pub struct Header {
+    pub loss_limit: u32,
+    pub standard_premium: u32,
+    pub expense: u32,
+    pub conversion: u32,
+    pub tax: u32,
+    pub mark_kind: u32,
+    pub maximum_mark: u32,
+    pub minimum_mark: u32,
+}
+
+/// What Read answers: 0 or the refusal, n, and the header values; all else is 0 where it is a
+/// refusal.
+#[repr(C)]
+#[derive(Clone, Copy, Debug, Default, PartialEq, Eq)]
+pub struct Group {
+    pub refused: u32,
+    pub risks: u32,
+    pub loss_limit: u32,
+    pub standard_premium: u32,
+    pub expense: u32,
+    pub conversion: u32,
+    pub tax: u32,
+    pub mark_kind: u32,
+    pub maximum_mark: u32,
+    pub minimum_mark: u32,
+}
+
+impl Group {
+    /// The answer with these values.
+    pub fn given(risks: u32, header: Header) -> Group {
+        Group {
+            refused: 0,
+            risks,
+            loss_limit: header.loss_limit,
+            standard_premium: header.standard_premium,
+            expense: header.expense,
+            conversion: header.conversion,
+            tax: header.tax,
+            mark_kind: header.mark_kind,
+            maximum_mark: header.maximum_mark,
+            minimum_mark: header.minimum_mark,
+        }
+    }
+
+    /// The answer to a file that fails a question.
+    pub fn refused(question: u32) -> Group {
+        Group {
+            refused: question,
+            ..Group::default()
+        }
+    }
+
+    /// The header values of the answer.
+    pub fn header(&self) -> Header {
+        Header {
+            loss_limit: self.loss_limit,
+            standard_premium: self.standard_premium,
+            expense: self.expense,
+            conversion: self.conversion,
+            tax: self.tax,
+            mark_kind: self.mark_kind,
+            maximum_mark: self.maximum_mark,
+            minimum_mark: self.minimum_mark,
+        }
+    }
+}
+
+impl From<second::Header> for Header {
+    fn from(header: second::Header) -> Header {
+        Header {
+            loss_limit: header.loss_limit,
+            standard_premium: header.standard_premium,
+            expense: header.expense,
+            conversion: header.conversion,
+            tax: header.tax,
+            mark_kind: header.mark_kind,
+            maximum_mark: header.maximum_mark,
+            minimum_mark: header.minimum_mark,
+        }
+    }
+}
+
+/// The calls as C sees them.
+pub mod raw {
+    use super::{Group, Header};
+
+    extern "C" {
+        pub fn retro_rate(
+            file: *const u8,
+            file_len: usize,
+            premiums: *mut u8,
+            premiums_len: usize,
+            risks: *mut u32,
+            basic: *mut u64,
+            excess: *mut u64,
+            billed: *mut u64,
+        ) -> u32;
+        pub fn retro_table(
+            file: *const u8,
+            file_len: usize,
+            entry_ratio: u32,
+            charge: *mut u32,
+            savings: *mut u32,
+        ) -> u32;
+        pub fn retro_read(
+            file: *const u8,
+            file_len: usize,
+            counts: *mut u8,
+            counts_len: usize,
+            claims: *mut u32,
+            claims_len: usize,
+        ) -> Group;
+        pub fn retro_write(
+            header: Header,
+            counts: *const u8,
+            counts_len: usize,
+            claims: *const u32,
+            claims_len: usize,
+            file: *mut u8,
+            file_len: usize,
+            length: *mut usize,
+        ) -> u32;
+    }
+}
+
+/// Rate: 0, or the number of the first question that the file or the buffer fails.
+pub fn rate(
+    file: &[u8],
+    premiums: &mut [u8],
+    risks: &mut u32,
+    basic: &mut u64,
+    excess: &mut u64,
+    billed: &mut u64,
+) -> u32 {
+    // SAFETY: each pointer is good for its count, and the borrows keep what is written apart.
+    unsafe {
+        raw::retro_rate(
+            file.as_ptr(),
+            file.len(),
+            premiums.as_mut_ptr(),
+            premiums.len(),
+            risks,
+            basic,
+            excess,
+            billed,
+        )
+    }
+}
+
+/// Table: 0, or the number of the first question that the file or the entry ratio fails.
+pub fn table(file: &[u8], entry_ratio: u32, charge: &mut u32, savings: &mut u32) -> u32 {
+    // SAFETY: as in `rate`.
+    unsafe { raw::retro_table(file.as_ptr(), file.len(), entry_ratio, charge, savings) }
+}
+
+/// Read: the header, with the counts and the claims in the buffers.
+pub fn read(file: &[u8], counts: &mut [u8], claims: &mut [u32]) -> Group {
+    // SAFETY: as in `rate`.
+    unsafe {
+        raw::retro_read(
+            file.as_ptr(),
+            file.len(),
+            counts.as_mut_ptr(),
+            counts.len(),
+            claims.as_mut_ptr(),
+            claims.len(),
+        )
+    }
+}
+
+/// Write: 0, or the number of the first question that the values or the buffer fail.
+pub fn write(
+    header: Header,
+    counts: &[u8],
+    claims: &[u32],
+    file: &mut [u8],
+    length: &mut usize,
+) -> u32 {
+    // SAFETY: as in `rate`.
+    unsafe {
+        raw::retro_write(
+            header,
+            counts.as_ptr(),
+            counts.len(),
+            claims.as_ptr(),
+            claims.len(),
+            file.as_mut_ptr(),
+            file.len(),
+            length,
+        )
+    }
+}

@@ -1,0 +1,332 @@
+//! The exported calls held to the second rater: every number and every byte, after answers and
+//! after refusals.
+//!
+//! Each call is made twice, with everything it is lent against the unreadable page before it and
+//! against the one after it. What is lent is preset, so that a part that must keep its contents is
+//! seen to keep them.
+
+use crate::calls::{self, Group, Header};
+use crate::guard::{Guarded, PLACES};
+use crate::second;
+use std::fmt;
+
+// What the lent numbers hold before a call.
+const RISKS: u32 = 0xa1b2_c3d4;
+const BASIC: u64 = 0x0123_4567_89ab_cdef;
+const EXCESS: u64 = 0xfedc_ba98_7654_3210;
+const BILLED: u64 = 0x5a5a_a5a5_3c3c_c3c3;
+const CHARGE: u32 = 0x1357_9bdf;
+const SAVINGS: u32 = 0x2468_ace0;
+const LENGTH: usize = 0x0f1e_2d3c_4b5a_6978;
+
+/// Byte k of a buffer before a call.
+fn preset_byte(k: usize) -> u8 {
+    (k as u8).wrapping_mul(151).wrapping_add(0xa5)
+}
+
+/// Claim k of a buffer before a call.
+fn preset_claim(k: usize) -> u32 {
+    (k as u32).wrapping_mul(0x9e37_79b1) ^ 0xdead_beef
+}
+
+/// The four calls, in the order of document 01.
+#[derive(Clone, Copy, Debug, PartialEq, Eq)]
+pub enum Call {
+    Rate,
+    Table,
+    Read,
+    Write,
+}
+
+pub const CALLS: [Call; 4] = [Call::Rate, Call::Table, Call::Read, Call::Write];
+
+impl Call {
+    /// The answers that the call can give: 0, or a question that it asks.
+    pub fn answers(self) -> &'static [u32] {
+        match self {
+            Call::Rate => &[0, 1, 2, 3, 4, 5, 6, 7, 8, 9, 10, 11, 12, 13],
+            Call::Table => &[0, 1, 2, 3, 4, 5, 6, 7, 8, 9, 10, 14],
+            Call::Read => &[0, 1, 2, 3, 4, 5, 6, 7, 8, 9, 13],
+            Call::Write => &[0, 3, 4, 5, 6, 7, 13, 15],
+        }
+    }
+}
+
+/// How often each call gave each answer; 0 is an acceptance.
+#[derive(Clone, Default)]
+pub struct Counts([[u64; 16]; 4]);
+
+impl Counts {
+    fn add(&mut self, call: Call, answer: u32) {
+        self.0[call as usize][answer as usize] += 1;
+    }
+
+    pub fn of(&self, call: Call, answer: u32) -> u64 {
+        self.0[call as usize][answer as usize]
+    }
+
+    pub fn merge(&mut self, other: &Counts) {
+        for (row, more) in self.0.iter_mut().zip(&other.0) {
+            for (count, more) in row.iter_mut().zip(more) {
+                *count += more;
+            }
+        }
+    }
+
+    /// The answers of each call that occurred fewer times than this.
+    pub fn rarer_than(&self, least: u64) -> Vec<(Call, u32)> {
+        let mut rare = Vec::new();
+        for call in CALLS {
+            for &answer in call.answers() {
+                if self.of(call, answer) < least {
+                    rare.push((call, answer));
+                }
+            }
+        }
+        rare
+    }
+}
+
+impl fmt::Display for Counts {
+    /// One line an answer, one column a call; a dash where the call cannot give the answer.
+    fn fmt(&self, f: &mut fmt::Formatter) -> fmt::Result {
+        write!(f, "{:<10}", "answer")?;
+        for call in CALLS {
+            write!(f, "{:>12}", format!("{call:?}"))?;
+        }
+        for answer in 0..16 {
+            match answer {
+                0 => write!(f, "\n{:<10}", "accepted")?,
+                _ => write!(f, "\nrefused {answer:<2}")?,
+            }
+            for call in CALLS {
+                match call.answers().contains(&answer) {
+                    true => write!(f, "{:>12}", self.of(call, answer))?,
+                    false => write!(f, "{:>12}", "-")?,
+                }
+            }
+        }
+        Ok(())
+    }
+}
+
+/// Memory for the calls, and how often they gave each answer.
+pub struct Comparison {
+    file: Guarded<u8>,
+    premiums: Guarded<u8>,
+    counts: Guarded<u8>,
+    claims: Guarded<u32>,
+    risks: Guarded<u32>,
+    amounts: [Guarded<u64>; 3],
+    ratios: [Guarded<u32>; 2],
+    length: Guarded<usize>,
+    pub given: Counts,
+}
+
+impl Default for Comparison {
+    fn default() -> Comparison {
+        Comparison::new()
+    }
+}
+
+impl Comparison {
+    /// Memory for files and buffers somewhat larger than the largest group needs.
+    pub fn new() -> Comparison {
+        Comparison {
+            file: Guarded::new(1 << 17),
+            premiums: Guarded::new(1 << 13),
+            counts: Guarded::new(1 << 17),
+            claims: Guarded::new(1 << 17),
+            risks: Guarded::new(1),
+            amounts: [Guarded::new(1), Guarded::new(1), Guarded::new(1)],
+            ratios: [Guarded::new(1), Guarded::new(1)],
+            length: Guarded::new(1),
+            given: Counts::default(),
+        }
+    }
+
+    /// Rate of a file into a buffer of so many bytes. Gives the answer, which both raters gave.
+    pub fn rate(&mut self, file: &[u8], room: usize) -> u32 {
+        let mut premiums: Vec<u8> = (0..room).map(preset_byte).collect();
+        let mut numbers = (RISKS, BASIC, EXCESS, BILLED);
+        let answer = match second::rate(file, room) {
+            Err(question) => question,
+            Ok(rated) => {
+                for (four, &premium) in premiums.chunks_exact_mut(4).zip(&rated.premiums) {
+                    four.copy_from_slice(&number::<u32, _>(premium).to_be_bytes());
+                }
+                let (basic, excess) = (number(rated.basic), number(rated.excess));
+                numbers = (rated.risks, basic, excess, number(rated.billed));
+                0
+            }
+        };
+        let [basic, excess, billed] = &mut self.amounts;
+        for place in PLACES {
+            let lent = self.file.copy(file, place);
+            let buffer = self.premiums.slice(room, place);
+            fill(buffer, preset_byte);
+            let risks = self.risks.number(RISKS, place);
+            let basic = basic.number(BASIC, place);
+            let excess = excess.number(EXCESS, place);
+            let billed = billed.number(BILLED, place);
+            let given = calls::rate(lent, buffer, risks, basic, excess, billed);
+            let about = || format!("Rate, {room} bytes lent, {place:?}, {}", Bytes(file));
+            same(given, answer, "answer", about);
+            same(
+                (*risks, *basic, *excess, *billed),
+                numbers,
+                "n, M, Q and sum billed",
+                about,
+            );
+            same(&*buffer, &premiums[..], "buffer", about);
+            same(&*lent, file, "file after the call", about);
+        }
+        self.given.add(Call::Rate, answer);
+        answer
+    }
+
+    /// Table of a file at an entry ratio.
+    pub fn table(&mut self, file: &[u8], entry_ratio: u32) -> u32 {
+        let (answer, ratios) = match second::table(file, entry_ratio) {
+            Err(question) => (question, (CHARGE, SAVINGS)),
+            Ok((charge, savings)) => (0, (number(charge), number(savings))),
+        };
+        let [charge, savings] = &mut self.ratios;
+        for place in PLACES {
+            let lent = self.file.copy(file, place);
+            let charge = charge.number(CHARGE, place);
+            let savings = savings.number(SAVINGS, place);
+            let given = calls::table(lent, entry_ratio, charge, savings);
+            let about = || format!("Table at {entry_ratio}, {place:?}, {}", Bytes(file));
+            same(given, answer, "answer", about);
+            same((*charge, *savings), ratios, "charge and savings", about);
+            same(&*lent, file, "file after the call", about);
+        }
+        self.given.add(Call::Table, answer);
+        answer
+    }
+
+    /// Read of a file into buffers of so many entries.
+    pub fn read(&mut self, file: &[u8], counts_room: usize, claims_room: usize) -> u32 {
+        let mut counts: Vec<u8> = (0..counts_room).map(preset_byte).collect();
+        let mut claims: Vec<u32> = (0..claims_room).map(preset_claim).collect();
+        let answer = match second::read(file, counts_room, claims_room) {
+            Err(question) => Group::refused(question),
+            Ok(group) => {
+                counts[..group.counts.len()].copy_from_slice(&group.counts);
+                claims[..group.claims.len()].copy_from_slice(&group.claims);
+                Group::given(group.counts.len() as u32, group.header.into())
+            }
+        };
+        for place in PLACES {
+            let lent = self.file.copy(file, place);
+            let counts_buffer = self.counts.slice(counts_room, place);
+            let claims_buffer = self.claims.slice(claims_room, place);
+            fill(counts_buffer, preset_byte);
+            fill(claims_buffer, preset_claim);
+            let given = calls::read(lent, counts_buffer, claims_buffer);
+            let about = || {
+                let rooms = format!("{counts_room} counts and {claims_room} claims lent");
+                format!("Read, {rooms}, {place:?}, {}", Bytes(file))
+            };
+            same(given, answer, "answer", about);
+            same(&*counts_buffer, &counts[..], "counts", about);
+            same(&*claims_buffer, &claims[..], "claims", about);
+            same(&*lent, file, "file after the call", about);
+        }
+        self.given.add(Call::Read, answer.refused);
+        answer.refused
+    }
+
+    /// Write of values into a buffer of so many bytes.
+    pub fn write(
+        &mut self,
+        header: &second::Header,
+        counts: &[u8],
+        claims: &[u32],
+        room: usize,
+    ) -> u32 {
+        let mut file: Vec<u8> = (0..room).map(preset_byte).collect();
+        let (answer, length) = match second::write(header, counts, claims, room) {
+            Err(question) => (question, LENGTH),
+            Ok(bytes) => {
+                file[..bytes.len()].copy_from_slice(&bytes);
+                (0, bytes.len())
+            }
+        };
+        for place in PLACES {
+            let lent_counts = self.counts.copy(counts, place);
+            let lent_claims = self.claims.copy(claims, place);
+            let buffer = self.file.slice(room, place);
+            fill(buffer, preset_byte);
+            let given_length = self.length.number(LENGTH, place);
+            let header: Header = (*header).into();
+            let given = calls::write(header, lent_counts, lent_claims, buffer, given_length);
+            let about = || {
+                let values = format!("{header:?}, counts {counts:?}, claims {claims:?}");
+                format!("Write, {room} bytes lent, {place:?}, {values}")
+            };
+            same(given, answer, "answer", about);
+            same(*given_length, length, "length", about);
+            same(&*buffer, &file[..], "buffer", about);
+            same(&*lent_counts, counts, "counts after the call", about);
+            same(&*lent_claims, claims, "claims after the call", about);
+        }
+        self.given.add(Call::Write, answer);
+        answer
+    }
+
+    /// Writes back what Read of an accepted file gives, which must yield the same bytes.
+    pub fn write_back(&mut self, file: &[u8]) {
+        let place = PLACES[0];
+        let lent = self.file.copy(file, place);
+        let counts = self.counts.slice(second::MOST_RISKS, place);
+        let claims_room = second::MOST_RISKS * second::MOST_CLAIMS_PER_RISK;
+        let claims = self.claims.slice(claims_room, place);
+        let group = calls::read(lent, counts, claims);
+        assert_eq!(group.refused, 0, "{}", Bytes(file));
+        let counts = &counts[..group.risks as usize];
+        let claims = &claims[..counts.iter().map(|&count| usize::from(count)).sum()];
+        let mut again = vec![0; file.len()];
+        let mut length = 0;
+        let answer = calls::write(group.header(), counts, claims, &mut again, &mut length);
+        let about = || format!("Write of what Read gives, {}", Bytes(file));
+        same(answer, 0, "answer", about);
+        same(length, file.len(), "length", about);
+        same(&again[..], file, "bytes", about);
+    }
+}
+
+/// Sets each number of a buffer by its index.
+fn fill<T>(buffer: &mut [T], preset: impl Fn(usize) -> T) {
+    for (k, number) in buffer.iter_mut().enumerate() {
+        *number = preset(k);
+    }
+}
+
+/// A number of the second rater in the width that the calls give it.
+fn number<T: TryFrom<N>, N: fmt::Display + Copy>(value: N) -> T {
+    T::try_from(value).unwrap_or_else(|_| panic!("{value} does not fit the exported number"))
+}
+
+/// Ends the comparison where a part differs between the library and the second rater.
+fn same<T: PartialEq + fmt::Debug>(given: T, expected: T, part: &str, about: impl Fn() -> String) {
+    assert!(
+        given == expected,
+        "{part}: the library gives {given:?}, the second rater {expected:?}\n{}",
+        about()
+    );
+}
+
+/// A file in a message.
+struct Bytes<'a>(&'a [u8]);
+
+impl fmt::Display for Bytes<'_> {
+    fn fmt(&self, f: &mut fmt::Formatter) -> fmt::Result {
+        write!(f, "file of {} bytes: ", self.0.len())?;
+        for byte in self.0 {
+            write!(f, "{byte:02x}")?;
+        }
+        Ok(())
+    }
+}

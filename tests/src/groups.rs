@@ -1,0 +1,498 @@
+//! Generated groups, damaged files and values for Write, with the corners of every field more often
+//! than chance has them.
+
+use crate::samples::{Sample, AMPLE};
+use crate::second::{self, Header};
+
+/// The largest claim, loss limit and expense provision.
+const LARGEST: u32 = (1 << 20) - 1;
+/// The largest standard premium.
+const LARGEST_PREMIUM: u32 = (1 << 22) - 1;
+
+/// A field of the header: its first bit and its width.
+#[derive(Clone, Copy, Debug)]
+pub struct Field {
+    pub at: usize,
+    pub width: usize,
+}
+
+/// The field of so many bits after another.
+const fn after(field: Field, width: usize) -> Field {
+    Field {
+        at: field.at + field.width,
+        width,
+    }
+}
+
+pub const EDITION: Field = Field { at: 0, width: 4 };
+pub const LOSS_LIMIT: Field = after(EDITION, 20);
+pub const STANDARD_PREMIUM: Field = after(LOSS_LIMIT, 22);
+pub const EXPENSE: Field = after(STANDARD_PREMIUM, 20);
+pub const CONVERSION: Field = after(EXPENSE, 11);
+pub const TAX: Field = after(CONVERSION, 15);
+pub const MARK_KIND: Field = after(TAX, 1);
+pub const MAXIMUM_MARK: Field = after(MARK_KIND, 13);
+pub const MINIMUM_MARK: Field = after(MAXIMUM_MARK, 13);
+pub const RISKS: Field = after(MINIMUM_MARK, 8);
+pub const SPARE: Field = after(RISKS, 1);
+
+/// The header's length in bytes.
+pub const HEADER: usize = 16;
+
+/// Puts a value into a field of the file's header, whatever the questions say to it.
+pub fn set(file: &mut [u8], field: Field, value: u32) {
+    for k in 0..field.width {
+        let mask = 0x80 >> ((field.at + k) % 8);
+        let byte = &mut file[(field.at + k) / 8];
+        if value >> (field.width - 1 - k) & 1 == 1 {
+            *byte |= mask;
+        } else {
+            *byte &= !mask;
+        }
+    }
+}
+
+/// The length in bits of a group's file without the fill bits.
+pub fn bits(risks: usize, claims: usize) -> usize {
+    128 + 6 * risks + 20 * claims
+}
+
+/// Values for Write, sound or not.
+#[derive(Clone, Debug)]
+pub struct Values {
+    pub header: Header,
+    pub counts: Vec<u8>,
+    pub claims: Vec<u32>,
+}
+
+impl Values {
+    /// The length in bytes of the file of these values, were they all to fit.
+    pub fn length(&self) -> usize {
+        bits(self.counts.len(), self.claims.len()).div_ceil(8)
+    }
+}
+
+/// A splitmix generator of 64 bits.
+pub struct Random(u64);
+
+impl Random {
+    pub fn new(seed: u64) -> Random {
+        Random(seed)
+    }
+
+    /// The next 64 bits.
+    pub fn word(&mut self) -> u64 {
+        self.0 = self.0.wrapping_add(0x9e37_79b9_7f4a_7c15);
+        let mut z = self.0;
+        z = (z ^ (z >> 30)).wrapping_mul(0xbf58_476d_1ce4_e5b9);
+        z = (z ^ (z >> 27)).wrapping_mul(0x94d0_49bb_1331_11eb);
+        z ^ (z >> 31)
+    }
+
+    /// A number from `low` to `high`, both included.
+    pub fn between(&mut self, low: u32, high: u32) -> u32 {
+        let span = u64::from(high - low) + 1;
+        low + (self.word() % span) as u32
+    }
+
+    /// The same for lengths and places.
+    pub fn within(&mut self, low: usize, high: usize) -> usize {
+        low + (self.word() % (high - low + 1) as u64) as usize
+    }
+
+    /// True once in so many times.
+    pub fn one_in(&mut self, times: u32) -> bool {
+        self.between(1, times) == 1
+    }
+
+    pub fn one_of<T: Copy>(&mut self, choices: &[T]) -> T {
+        choices[self.within(0, choices.len() - 1)]
+    }
+
+    /// A number below 2 to the power `width`, small ones as likely as large.
+    pub fn of_any_size(&mut self, width: u32) -> u32 {
+        let used = self.between(0, width);
+        (self.word() & ((1 << used) - 1)) as u32
+    }
+
+    pub fn bytes(&mut self, len: usize) -> Vec<u8> {
+        (0..len).map(|_| self.word() as u8).collect()
+    }
+
+    // ---- groups
+
+    /// A group that passes questions 1 to 9.
+    pub fn group(&mut self) -> Sample {
+        let mut risks = self.risks();
+        let loss_limit = self.loss_limit(&risks);
+        if loss_limit > 0 && self.one_in(4) {
+            self.claims_at_the_limit(&mut risks, loss_limit);
+        }
+        let header = self.header(loss_limit, &risks);
+        let mut sample = Sample { header, risks };
+        if self.one_in(6) {
+            self.bring_basic_near_0(&mut sample);
+        }
+        sample
+    }
+
+    /// The claims of each risk.
+    fn risks(&mut self) -> Vec<Vec<u32>> {
+        if self.one_in(400) {
+            // the longest file
+            return self.risks_with(255, 63, 63, 20);
+        }
+        let n = match self.between(0, 11) {
+            0 => 1,
+            1 => self.one_of(&[254, 255]),
+            2 => self.between(1, 255),
+            3..=5 => self.between(1, 4),
+            _ => self.between(1, 20),
+        };
+        let claim_width = self.between(1, 20);
+        let (fewest, most) = match self.between(0, 11) {
+            0 => (0, 0),
+            1 => (0, 1),
+            2 if n <= 8 => (63, 63),
+            3 => (1, 1),
+            _ => (0, self.of_any_size(6).max(1)),
+        };
+        self.risks_with(n, fewest, most, claim_width)
+    }
+
+    fn risks_with(&mut self, n: u32, fewest: u32, most: u32, width: u32) -> Vec<Vec<u32>> {
+        let no_losses = self.one_in(40);
+        let mut risks = Vec::new();
+        for _ in 0..n {
+            let count = self.between(fewest, most);
+            let claims = (0..count).map(|_| match self.between(0, 15) {
+                _ if no_losses => 0,
+                0 => 0,
+                1 => LARGEST,
+                2 => 1,
+                _ => self.of_any_size(width),
+            });
+            risks.push(claims.collect());
+        }
+        risks
+    }
+
+    /// No limit, a limit at a corner, or one at or beside a claim.
+    fn loss_limit(&mut self, risks: &[Vec<u32>]) -> u32 {
+        let claims = risks.concat();
+        match self.between(0, 8) {
+            0..=2 => 0,
+            3 => self.one_of(&[1, LARGEST]),
+            4 | 5 if !claims.is_empty() => {
+                let claim = self.one_of(&claims);
+                self.one_of(&[claim, claim.saturating_sub(1), (claim + 1).min(LARGEST)])
+            }
+            _ => self.of_any_size(20),
+        }
+    }
+
+    /// Some claims become the limit, or the dollar below or above it.
+    fn claims_at_the_limit(&mut self, risks: &mut [Vec<u32>], loss_limit: u32) {
+        for claim in risks.iter_mut().flatten() {
+            if self.one_in(3) {
+                *claim = self.one_of(&[loss_limit, loss_limit - 1, (loss_limit + 1).min(LARGEST)]);
+            }
+        }
+    }
+
+    /// Header values that pass questions 2 to 6.
+    fn header(&mut self, loss_limit: u32, risks: &[Vec<u32>]) -> Header {
+        let (maximum_mark, minimum_mark) = self.marks();
+        let losses: u64 = risks.iter().flatten().map(|&claim| u64::from(claim)).sum();
+        let mean = (losses / risks.len() as u64).min(u64::from(LARGEST)) as u32;
+        Header {
+            loss_limit,
+            standard_premium: match self.between(0, 7) {
+                0 => 1,
+                1 => LARGEST_PREMIUM,
+                2..=4 => self.between(mean / 4, 4 * mean).clamp(1, LARGEST_PREMIUM),
+                _ => self.of_any_size(22).max(1),
+            },
+            expense: match self.between(0, 7) {
+                0 => 0,
+                1 => LARGEST,
+                2 | 3 => self.between(0, mean),
+                4 | 5 => self.between(mean / 2, 4 * mean).min(LARGEST),
+                _ => self.of_any_size(20),
+            },
+            conversion: match self.between(0, 3) {
+                0 => self.one_of(&[1_000, 1_001, 1_999, 2_000]),
+                1 => 1_000,
+                _ => self.between(1_000, 2_000),
+            },
+            tax: match self.between(0, 3) {
+                0 => self.one_of(&[10_000, 10_001, 19_999, 20_000]),
+                1 => 10_000,
+                _ => self.between(10_000, 20_000),
+            },
+            mark_kind: self.between(0, 1),
+            maximum_mark,
+            minimum_mark,
+        }
+    }
+
+    /// The maximum and the minimum mark, mostly in their order.
+    fn marks(&mut self) -> (u32, u32) {
+        let one = self.mark();
+        let other = match self.between(0, 7) {
+            0 => one,
+            1..=3 => self.between(0, 500),
+            _ => self.mark(),
+        };
+        if self.one_in(8) {
+            (one.min(other), one.max(other))
+        } else {
+            (one.max(other), one.min(other))
+        }
+    }
+
+    fn mark(&mut self) -> u32 {
+        match self.between(0, 3) {
+            0 => self.one_of(&[0, 0, 1, 999, 1_000, 1_001, 5_999, 6_000, 6_000]),
+            1 => self.between(0, 6_000),
+            _ => self.between(0, 2_000),
+        }
+    }
+
+    /// Sets the expense provision to the least that gives no negative basic premium, or to one
+    /// dollar less.
+    fn bring_basic_near_0(&mut self, sample: &mut Sample) {
+        let given = sample.header.expense;
+        sample.header.expense = LARGEST;
+        let Ok(rated) = second::rate(&sample.file(), AMPLE) else {
+            sample.header.expense = given;
+            return;
+        };
+        let dollars = rated.basic / (1_000 * i128::from(rated.risks));
+        let least = LARGEST.saturating_sub(u32::try_from(dollars).unwrap_or(u32::MAX));
+        sample.header.expense = least.saturating_sub(self.between(0, 1));
+    }
+
+    // ---- files
+
+    /// A file: of a sound group, or with one or two kinds of damage done to it.
+    pub fn file(&mut self) -> Vec<u8> {
+        let sample = self.group();
+        let mut file = sample.file();
+        if self.one_in(2) {
+            self.damage(&mut file, &sample);
+            if self.one_in(5) {
+                self.damage(&mut file, &sample);
+            }
+        }
+        file
+    }
+
+    fn damage(&mut self, file: &mut Vec<u8>, sample: &Sample) {
+        match self.between(0, 11) {
+            0 => self.turn_a_bit(file),
+            1 => self.turn_a_bit_of_the_header(file),
+            2 => file.truncate(self.within(0, file.len())),
+            3 => file.truncate(file.len().saturating_sub(self.within(1, 3))),
+            4 => file.truncate(self.within(0, HEADER + 3)),
+            5 => {
+                let len = self.within(1, 9);
+                let added = self.one_of(&[0, 0, 0xff, 1]);
+                file.resize(file.len() + len, added);
+            }
+            6 => self.set_a_fill_bit(file, sample),
+            7 | 8 => self.spoil_a_field(file),
+            9 => self.another_header(file),
+            10 => {
+                // whatever bytes under this header
+                let len = self.within(0, 80);
+                file.truncate(HEADER);
+                file.extend(self.bytes(len));
+            }
+            _ => {
+                let len = self.within(0, 80);
+                *file = self.bytes(len);
+            }
+        }
+    }
+
+    fn turn_a_bit(&mut self, file: &mut [u8]) {
+        if !file.is_empty() {
+            let bit = self.within(0, 8 * file.len() - 1);
+            file[bit / 8] ^= 0x80 >> (bit % 8);
+        }
+    }
+
+    fn turn_a_bit_of_the_header(&mut self, file: &mut [u8]) {
+        let header = file.len().min(HEADER);
+        self.turn_a_bit(&mut file[..header]);
+    }
+
+    /// Sets one of the bits after the last field, where there is one.
+    fn set_a_fill_bit(&mut self, file: &mut [u8], sample: &Sample) {
+        let end = bits(sample.risks.len(), sample.claims().len());
+        if file.len() == end.div_ceil(8) && !end.is_multiple_of(8) {
+            let bit = self.within(end, 8 * file.len() - 1);
+            file[bit / 8] |= 0x80 >> (bit % 8);
+        }
+    }
+
+    /// Gives one field of the header a value that fails a question or is another number of risks.
+    fn spoil_a_field(&mut self, file: &mut [u8]) {
+        if file.len() < HEADER {
+            return;
+        }
+        let any = self.word() as u32;
+        match self.between(0, 7) {
+            0 => set(file, EDITION, self.one_of(&[0, 2, 3, 9, 15])),
+            1 => set(file, SPARE, 1),
+            2 => set(file, STANDARD_PREMIUM, 0),
+            3 => set(file, CONVERSION, self.one_of(&[0, 999, 2_001, 2_047])),
+            4 => set(file, TAX, self.one_of(&[0, 9_999, 20_001, 32_767])),
+            5 => set(file, MAXIMUM_MARK, self.one_of(&[6_001, 8_191])),
+            6 => set(file, MINIMUM_MARK, self.one_of(&[6_001, 8_191])),
+            _ => set(file, RISKS, self.one_of(&[0, 0, 1, 254, 255, any])),
+        }
+    }
+
+    /// Another header over the claims: each field mostly of another group, at times of whatever
+    /// bits.
+    fn another_header(&mut self, file: &mut [u8]) {
+        if file.len() < HEADER {
+            return;
+        }
+        let risks = file[HEADER - 2..HEADER].to_vec();
+        let other = self.group().file();
+        file[..HEADER].copy_from_slice(&other[..HEADER]);
+        if self.one_in(2) {
+            // the number of risks and the spare bit stay
+            file[HEADER - 2] = (file[HEADER - 2] & 0xfe) | (risks[0] & 1);
+            file[HEADER - 1] = risks[1];
+        }
+        for field in [
+            EDITION,
+            LOSS_LIMIT,
+            STANDARD_PREMIUM,
+            EXPENSE,
+            CONVERSION,
+            TAX,
+            MARK_KIND,
+            MAXIMUM_MARK,
+            MINIMUM_MARK,
+            RISKS,
+            SPARE,
+        ] {
+            if self.one_in(16) {
+                set(file, field, self.word() as u32);
+            }
+        }
+    }
+
+    // ---- values for Write
+
+    /// Values for Write: those of a sound group, or with one or two of them spoiled.
+    pub fn values(&mut self) -> Values {
+        let sample = self.group();
+        let mut values = Values {
+            header: sample.header,
+            counts: sample.counts(),
+            claims: sample.claims(),
+        };
+        if !self.one_in(3) {
+            self.spoil(&mut values);
+            if self.one_in(4) {
+                self.spoil(&mut values);
+            }
+        }
+        values
+    }
+
+    fn spoil(&mut self, values: &mut Values) {
+        match self.between(0, 5) {
+            0 | 1 => self.spoil_the_header(&mut values.header),
+            2 => self.spoil_the_number_of_risks(values),
+            3 => self.spoil_a_count(values),
+            4 => self.spoil_a_claim(&mut values.claims),
+            _ => self.spoil_the_sum(values),
+        }
+    }
+
+    /// Gives one header value a number that fails its question or its width.
+    fn spoil_the_header(&mut self, header: &mut Header) {
+        let (value, width) = match self.between(0, 7) {
+            0 => (&mut header.loss_limit, 20),
+            1 => (&mut header.standard_premium, 22),
+            2 => (&mut header.expense, 20),
+            3 => (&mut header.conversion, 11),
+            4 => (&mut header.tax, 15),
+            5 => (&mut header.mark_kind, 1),
+            6 => (&mut header.maximum_mark, 13),
+            _ => (&mut header.minimum_mark, 13),
+        };
+        // past the width, some with the sound value in the field's own bits
+        let past = [
+            1 << width,
+            (1 << width) + *value,
+            *value | 1 << 31,
+            *value | 1 << 16,
+            u32::MAX,
+            self.word() as u32,
+        ];
+        let outside = [0, 2, 999, 2_001, 6_001, 9_999, 20_001];
+        *value = if self.one_in(2) {
+            self.one_of(&past)
+        } else {
+            self.one_of(&outside)
+        };
+    }
+
+    /// No risks, or more than 255.
+    fn spoil_the_number_of_risks(&mut self, values: &mut Values) {
+        let n = self.one_of(&[0, 0, 256, 257, 300, 511, 512]);
+        values.counts.resize(n, 0);
+        if self.one_in(2) {
+            let sum = values.counts.iter().map(|&count| usize::from(count)).sum();
+            values.claims.resize(sum, 1);
+        }
+    }
+
+    /// A count that does not fit, mostly with as many claims as the counts add to.
+    fn spoil_a_count(&mut self, values: &mut Values) {
+        if values.counts.is_empty() {
+            return;
+        }
+        let risk = self.within(0, values.counts.len() - 1);
+        let kept = values.counts[risk] & 63;
+        values.counts[risk] = self.one_of(&[64, 64 + kept, 128 + kept, 192 + kept, 255]);
+        if !self.one_in(3) {
+            let sum = values.counts.iter().map(|&count| usize::from(count)).sum();
+            values.claims.resize(sum, 1);
+        }
+    }
+
+    /// A claim that does not fit.
+    fn spoil_a_claim(&mut self, claims: &mut [u32]) {
+        if claims.is_empty() {
+            return;
+        }
+        let k = self.within(0, claims.len() - 1);
+        let kept = claims[k] & LARGEST;
+        let any = self.word() as u32;
+        claims[k] = self.one_of(&[1 << 20, kept | 1 << 20, kept | 1 << 31, u32::MAX, any]);
+    }
+
+    /// Another number of claims than the counts add to.
+    fn spoil_the_sum(&mut self, values: &mut Values) {
+        match self.between(0, 2) {
+            0 => values.claims.push(1),
+            1 => {
+                values.claims.pop();
+            }
+            _ if values.counts.is_empty() => values.claims.push(0),
+            _ => {
+                let risk = self.within(0, values.counts.len() - 1);
+                values.counts[risk] ^= 1;
+            }
+        }
+    }
+}

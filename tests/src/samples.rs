@@ -1,0 +1,145 @@
+//! The groups of document 01 and other known groups.
+
+use crate::second::{self, Header};
+
+/// A buffer's length that is enough for every call.
+pub const AMPLE: usize = 1 << 20;
+
+/// A group as plain values: the header and the claims of each risk.
+#[derive(Clone, Debug)]
+pub struct Sample {
+    pub header: Header,
+    pub risks: Vec<Vec<u32>>,
+}
+
+impl Sample {
+    pub fn counts(&self) -> Vec<u8> {
+        self.risks.iter().map(|claims| claims.len() as u8).collect()
+    }
+
+    pub fn claims(&self) -> Vec<u32> {
+        self.risks.concat()
+    }
+
+    /// The group file. The group must have passed the questions of Write.
+    pub fn file(&self) -> Vec<u8> {
+        second::write(&self.header, &self.counts(), &self.claims(), AMPLE).unwrap()
+    }
+}
+
+/// The four-risk group of the document.
+pub fn four_risks() -> Sample {
+    Sample {
+        header: Header {
+            loss_limit: 5_000,
+            standard_premium: 10_000,
+            expense: 2_000,
+            conversion: 1_100,
+            tax: 10_500,
+            mark_kind: 0,
+            maximum_mark: 900,
+            minimum_mark: 200,
+        },
+        risks: vec![
+            vec![],
+            vec![3_000, 1_000],
+            vec![7_000],
+            vec![5_000, 6_000, 2_000],
+        ],
+    }
+}
+
+/// One claim of 1 in all: e 0, c 1.000, T 1.0000, no limit, entry marks 1.000
+/// and 0. The document leaves P and the risk with the claim open; P is 1 here
+/// and the first risk has the claim.
+pub fn one_claim_of_one(n: usize) -> Sample {
+    let mut risks = vec![vec![]; n];
+    risks[0].push(1);
+    Sample {
+        header: Header {
+            loss_limit: 0,
+            standard_premium: 1,
+            expense: 0,
+            conversion: 1_000,
+            tax: 10_000,
+            mark_kind: 1,
+            maximum_mark: 1_000,
+            minimum_mark: 0,
+        },
+        risks,
+    }
+}
+
+/// Two risks of 10: e 0, T 1.0000, no limit, entry marks 6.000 and 0. The
+/// document leaves P open; P is 1 here.
+pub fn two_risks_of_ten(conversion: u32) -> Sample {
+    Sample {
+        header: Header {
+            loss_limit: 0,
+            standard_premium: 1,
+            expense: 0,
+            conversion,
+            tax: 10_000,
+            mark_kind: 1,
+            maximum_mark: 6_000,
+            minimum_mark: 0,
+        },
+        risks: vec![vec![10], vec![10]],
+    }
+}
+
+/// Loss ratio marks 0.900 and 0.950 with c 1.000. The document leaves the rest
+/// open; here e is 0, T 1.0000, no limit, and one risk has one claim of 10.
+pub fn crossed_marks(standard_premium: u32) -> Sample {
+    Sample {
+        header: Header {
+            loss_limit: 0,
+            standard_premium,
+            expense: 0,
+            conversion: 1_000,
+            tax: 10_000,
+            mark_kind: 0,
+            maximum_mark: 900,
+            minimum_mark: 950,
+        },
+        risks: vec![vec![10]],
+    }
+}
+
+/// Ten risks with one claim each, c 1.300, without limit and taxes.
+pub fn ten_risks() -> Sample {
+    let claims = [
+        1_000, 2_000, 4_000, 6_000, 6_000, 6_000, 6_000, 8_000, 10_000, 11_000,
+    ];
+    Sample {
+        header: Header {
+            loss_limit: 0,
+            standard_premium: 10_000,
+            expense: 3_580,
+            conversion: 1_300,
+            tax: 10_000,
+            mark_kind: 0,
+            maximum_mark: 900,
+            minimum_mark: 200,
+        },
+        risks: claims.iter().map(|&claim| vec![claim]).collect(),
+    }
+}
+
+/// The largest group: 255 risks with 63 claims of the largest value each, no
+/// limit, both marks 0 and every other value at its upper end.
+pub fn largest() -> Sample {
+    Sample {
+        header: Header {
+            loss_limit: 0,
+            standard_premium: (1 << 22) - 1,
+            expense: (1 << 20) - 1,
+            conversion: 2_000,
+            tax: 20_000,
+            mark_kind: 0,
+            maximum_mark: 0,
+            minimum_mark: 0,
+        },
+        risks: vec![vec![(1 << 20) - 1; 63]; 255],
+    }
+}

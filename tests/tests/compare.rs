@@ -1,0 +1,545 @@
+//! The comparison: the exported calls against the second rater on generated and damaged files and
+//! values, every number and every byte, everything lent lying against unreadable pages.
+//!
+//! The gate runs 400,000 files from a fixed seed. A longer run, with another seed:
+//!
+//!     RETRO_FILES=5000000 RETRO_SEED=7 cargo test --offline --release --test compare -- generated_files
+
+use retro_tests::calls::{self, raw, Group};
+use retro_tests::comparison::{Call, Comparison, Counts};
+use retro_tests::groups::{set, Random, RISKS, STANDARD_PREMIUM};
+use retro_tests::guard::Sparse;
+use retro_tests::samples::{
+    crossed_marks, four_risks, largest, one_claim_of_one, ten_risks, two_risks_of_ten, Sample,
+};
+use retro_tests::second::{self, Header};
+use std::io::{self, Write};
+use std::sync::atomic::{AtomicU64, Ordering};
+use std::time::Instant;
+use std::{env, ptr, thread};
+
+/// Files in the gate.
+const FILES: u64 = 400_000;
+/// The seed in the gate.
+const SEED: u64 = 1_965;
+/// Files from one state of the generator, so that the files do not depend on the number of threads.
+const BATCH: u64 = 500;
+/// How often each answer of each call must occur at least.
+const LEAST: u64 = 100;
+
+/// A number from the environment in decimal digits, or the gate's.
+fn setting(name: &str, gate: u64) -> u64 {
+    match env::var(name) {
+        Ok(text) => text
+            .parse()
+            .unwrap_or_else(|_| panic!("{name} must be a whole number, not {text}")),
+        Err(_) => gate,
+    }
+}
+
+/// Prints a line that the test harness does not hold back.
+fn say(line: &str) {
+    writeln!(io::stdout(), "{line}").expect("standard output");
+}
+
+#[test]
+fn generated_files() {
+    let files = setting("RETRO_FILES", FILES);
+    let seed = setting("RETRO_SEED", SEED);
+    say(&format!("comparison: {files} files, seed {seed}"));
+    let start = Instant::now();
+    let counts = compare_in_threads(files.div_ceil(BATCH), seed);
+    say(&format!("{counts}"));
+    say(&format!(
+        "comparison: no difference, {:.1} s",
+        start.elapsed().as_secs_f64()
+    ));
+    let rare = counts.rarer_than(LEAST);
+    assert!(rare.is_empty(), "fewer than {LEAST} times: {rare:?}");
+}
+
+/// Runs the batches on all cores. Gives how often each call gave each answer.
+fn compare_in_threads(batches: u64, seed: u64) -> Counts {
+    let next = AtomicU64::new(0);
+    let mut counts = Counts::default();
+    thread::scope(|scope| {
+        let workers: Vec<_> = (0..thread::available_parallelism().map_or(1, usize::from))
+            .map(|_| scope.spawn(|| compare_batches(&next, batches, seed)))
+            .collect();
+        for worker in workers {
+            counts.merge(&worker.join().expect("a difference"));
+        }
+    });
+    counts
+}
+
+/// Takes batches until there are none left.
+fn compare_batches(next: &AtomicU64, batches: u64, seed: u64) -> Counts {
+    let mut comparison = Comparison::new();
+    loop {
+        let batch = next.fetch_add(1, Ordering::Relaxed);
+        if batch >= batches {
+            return comparison.given;
+        }
+        let mut random = Random::new(Random::new(seed ^ batch.rotate_left(32)).word());
+        for _ in 0..BATCH {
+            let file = random.file();
+            compare_file(&mut comparison, &mut random, &file);
+            compare_values(&mut comparison, &mut random);
+        }
+    }
+}
+
+/// Rate, Table and Read of a file, and Write of what Read gives.
+fn compare_file(comparison: &mut Comparison, random: &mut Random, file: &[u8]) {
+    let (risks, claims) = sizes(file);
+    let room = around(random, 4 * risks);
+    comparison.rate(file, room);
+    let entry_ratio = match random.between(0, 7) {
+        0 => random.one_of(&[0, 1, 99, 100, 101, 599, 600]),
+        1 => random.one_of(&[601, 602, 1_000, 65_536, 65_636, 1 << 31, u32::MAX]),
+        _ => random.between(0, 600),
+    };
+    comparison.table(file, entry_ratio);
+    let counts_room = around(random, risks);
+    let claims_room = around(random, claims);
+    if comparison.read(file, counts_room, claims_room) == 0 {
+        comparison.write_back(file);
+    }
+}
+
+/// Write of values that may be sound or not.
+fn compare_values(comparison: &mut Comparison, random: &mut Random) {
+    let values = random.values();
+    let room = around(random, values.length());
+    comparison.write(&values.header, &values.counts, &values.claims, room);
+}
+
+/// The number of risks and of claims that a file has by its bytes, whatever the questions say to
+/// it.
+fn sizes(file: &[u8]) -> (usize, usize) {
+    let bit =
+        |at: usize| usize::from(at / 8 < file.len() && file[at / 8] & (0x80 >> (at % 8)) != 0);
+    let take = |at: usize, width: usize| (at..at + width).fold(0, |value, k| 2 * value + bit(k));
+    let risks = take(RISKS.at, RISKS.width);
+    let (mut at, mut claims) = (128, 0);
+    for _ in 0..risks {
+        let count = take(at, 6);
+        claims += count;
+        at += 6 + 20 * count;
+    }
+    (risks, claims)
+}
+
+/// A buffer's length: mostly enough, else just too short or any.
+fn around(random: &mut Random, enough: usize) -> usize {
+    match random.between(0, 15) {
+        0 => random.within(0, enough + 8),
+        1 => enough.saturating_sub(1),
+        2 => enough.saturating_sub(random.within(1, 5)),
+        3..=9 => enough,
+        _ => enough + random.within(0, 9),
+    }
+}
+
+/// Known groups, of which some fall at questions 10, 11 and 12.
+fn known() -> Vec<Sample> {
+    let mut no_losses = four_risks();
+    no_losses.risks = vec![vec![0], vec![], vec![0, 0], vec![]];
+    let mut no_claims = one_claim_of_one(22);
+    no_claims.risks = vec![vec![]; 22];
+    vec![
+        four_risks(),
+        ten_risks(),
+        one_claim_of_one(1),
+        one_claim_of_one(2),
+        one_claim_of_one(3),
+        one_claim_of_one(255),
+        two_risks_of_ten(1_000),
+        two_risks_of_ten(2_000),
+        crossed_marks(1),
+        crossed_marks(1_000),
+        no_losses,
+        no_claims,
+    ]
+}
+
+/// Rate, Table and Read of a file with room enough. Gives Read's answer.
+fn all_calls(comparison: &mut Comparison, file: &[u8]) -> u32 {
+    comparison.rate(file, 4 * second::MOST_RISKS);
+    comparison.table(file, 100);
+    comparison.read(file, second::MOST_RISKS, 1_000)
+}
+
+#[test]
+fn each_prefix() {
+    let mut comparison = Comparison::new();
+    for sample in known() {
+        let file = sample.file();
+        for len in 0..file.len() {
+            let answer = all_calls(&mut comparison, &file[..len]);
+            assert_eq!(answer, if len < 16 { 1 } else { 8 });
+        }
+    }
+    // the largest file at each length around its header and its end, and at others between
+    let file = largest().file();
+    for len in (0..40)
+        .chain((40..file.len()).step_by(997))
+        .chain(file.len() - 20..file.len())
+    {
+        let answer = all_calls(&mut comparison, &file[..len]);
+        assert_eq!(answer, if len < 16 { 1 } else { 8 });
+    }
+}
+
+#[test]
+fn each_bit() {
+    let mut comparison = Comparison::new();
+    for sample in known() {
+        let mut file = sample.file();
+        for bit in 0..8 * file.len() {
+            file[bit / 8] ^= 0x80 >> (bit % 8);
+            all_calls(&mut comparison, &file);
+            file[bit / 8] ^= 0x80 >> (bit % 8);
+        }
+    }
+}
+
+#[test]
+fn bytes_added() {
+    let mut comparison = Comparison::new();
+    for sample in known() {
+        for added in [0, 1, 0x80, 0xff] {
+            let mut file = sample.file();
+            for _ in 0..40 {
+                file.push(added);
+                assert_eq!(all_calls(&mut comparison, &file), 8);
+            }
+        }
+    }
+}
+
+#[test]
+fn each_length_of_the_premiums() {
+    let mut comparison = Comparison::new();
+    for n in [1, 2, 3, 4, 63, 64, 128, 254, 255] {
+        let file = one_claim_of_one(n).file();
+        for room in 0..=4 * n + 9 {
+            let answer = comparison.rate(&file, room);
+            assert_eq!(answer, if room < 4 * n { 13 } else { 0 });
+        }
+    }
+}
+
+#[test]
+fn each_length_of_counts_and_claims() {
+    let mut comparison = Comparison::new();
+    let file = four_risks().file();
+    for counts_room in 0..=7 {
+        for claims_room in 0..=9 {
+            let answer = comparison.read(&file, counts_room, claims_room);
+            let enough = counts_room >= 4 && claims_room >= 6;
+            assert_eq!(answer, if enough { 0 } else { 13 });
+        }
+    }
+    let file = largest().file();
+    for counts_room in 253..=257 {
+        for claims_room in 16_063..=16_067 {
+            let answer = comparison.read(&file, counts_room, claims_room);
+            let enough = counts_room >= 255 && claims_room >= 16_065;
+            assert_eq!(answer, if enough { 0 } else { 13 });
+        }
+    }
+}
+
+#[test]
+fn each_length_of_the_written_file() {
+    let mut comparison = Comparison::new();
+    for sample in known() {
+        let (counts, claims) = (sample.counts(), sample.claims());
+        let length = sample.file().len();
+        for room in 0..=length + 9 {
+            let answer = comparison.write(&sample.header, &counts, &claims, room);
+            assert_eq!(answer, if room < length { 13 } else { 0 });
+        }
+    }
+}
+
+#[test]
+fn each_entry_ratio() {
+    let mut comparison = Comparison::new();
+    for sample in [four_risks(), ten_risks(), one_claim_of_one(3)] {
+        let file = sample.file();
+        for entry_ratio in 0..=1_300 {
+            let answer = comparison.table(&file, entry_ratio);
+            assert_eq!(answer, if entry_ratio > 600 { 14 } else { 0 });
+        }
+    }
+}
+
+/// A header with one of its values changed, by the value's place in the header.
+fn with_value(header: &Header, place: usize, value: u32) -> Header {
+    let mut changed = *header;
+    *match place {
+        0 => &mut changed.loss_limit,
+        1 => &mut changed.standard_premium,
+        2 => &mut changed.expense,
+        3 => &mut changed.conversion,
+        4 => &mut changed.tax,
+        5 => &mut changed.mark_kind,
+        6 => &mut changed.maximum_mark,
+        _ => &mut changed.minimum_mark,
+    } = value;
+    changed
+}
+
+#[test]
+fn write_of_each_header_value() {
+    let mut comparison = Comparison::new();
+    let sample = four_risks();
+    let (counts, claims) = (sample.counts(), sample.claims());
+    for place in 0..8 {
+        for power in 0..32 {
+            for value in [
+                (1 << power) - 1,
+                1 << power,
+                (1 << power) + 1,
+                u32::MAX - (1 << power),
+            ] {
+                let header = with_value(&sample.header, place, value);
+                comparison.write(&header, &counts, &claims, 34);
+                comparison.write(&header, &counts, &claims, 33);
+            }
+        }
+        for value in [
+            999, 1_000, 2_000, 2_001, 6_000, 6_001, 9_999, 10_000, 20_000, 20_001,
+        ] {
+            let header = with_value(&sample.header, place, value);
+            comparison.write(&header, &counts, &claims, 34);
+        }
+    }
+    for answer in [0, 3, 4, 5, 6, 13, 15] {
+        assert!(comparison.given.of(Call::Write, answer) > 0, "{answer}");
+    }
+}
+
+#[test]
+fn write_of_numbers_that_wrap() {
+    // Counts and claims so many that their number in 8 or 16 bits is a sound one.
+    let mut comparison = Comparison::new();
+    let header = four_risks().header;
+    for more in [256, 512, 65_536] {
+        let mut counts = vec![0; 4 + more];
+        assert_eq!(comparison.write(&header, &counts, &[], 34), 15);
+        counts.truncate(4);
+        counts[0] = 2;
+        assert_eq!(
+            comparison.write(&header, &counts, &vec![7; 2 + more], 34),
+            15
+        );
+    }
+    // Counts that add to the number of claims only in 8 or 16 bits, or with the bits above a
+    // count's six dropped.
+    for counts in [
+        [64, 64, 64, 66],
+        [130, 0, 0, 0],
+        [66, 0, 0, 0],
+        [2, 192, 0, 64],
+    ] {
+        assert_eq!(comparison.write(&header, &counts, &[7, 7], 34), 15);
+    }
+    // 255 risks of 255 claims each: 65,025 claims
+    let counts = [255; 255];
+    assert_eq!(
+        comparison.write(&header, &counts, &vec![1; 65_025], 1 << 17),
+        15
+    );
+}
+
+#[test]
+fn write_of_each_claim_and_count() {
+    let mut comparison = Comparison::new();
+    let header = four_risks().header;
+    for power in 0..32 {
+        for claim in [(1 << power) - 1, 1 << power, (1 << power) + 1] {
+            let answer = comparison.write(&header, &[1, 1], &[5, claim], 23);
+            assert_eq!(answer, if claim < 1 << 20 { 0 } else { 15 });
+        }
+    }
+    for count in 0..=255u8 {
+        let claims = vec![9; usize::from(count)];
+        let answer = comparison.write(&header, &[count], &claims, 200);
+        assert_eq!(answer, if count < 64 { 0 } else { 15 });
+    }
+}
+
+/// Rate, Table and Read with a null pointer for each slice whose count is 0.
+fn null_where_empty(file: &[u8], counts_room: usize, claims_room: usize) {
+    let lent = pointer(file);
+    let (mut risks, mut basic, mut excess, mut billed) = (1, 2, 3, 4);
+    // SAFETY: each pointer is good for its count; a null pointer has count 0.
+    let rated = unsafe {
+        let no_bytes = ptr::null_mut();
+        raw::retro_rate(
+            lent,
+            file.len(),
+            no_bytes,
+            0,
+            &mut risks,
+            &mut basic,
+            &mut excess,
+            &mut billed,
+        )
+    };
+    assert_eq!(Some(rated), second::rate(file, 0).err());
+    assert_eq!((risks, basic, excess, billed), (1, 2, 3, 4));
+
+    if file.is_empty() {
+        let (mut charge, mut savings) = (5, 6);
+        // SAFETY: as above.
+        let tabled = unsafe { raw::retro_table(lent, 0, 100, &mut charge, &mut savings) };
+        assert_eq!((tabled, charge, savings), (1, 5, 6));
+    }
+
+    let mut counts = vec![7; counts_room];
+    let mut claims = vec![8; claims_room];
+    // SAFETY: as above.
+    let given = unsafe {
+        raw::retro_read(
+            lent,
+            file.len(),
+            mutable(&mut counts),
+            counts_room,
+            mutable(&mut claims),
+            claims_room,
+        )
+    };
+    match second::read(file, counts_room, claims_room) {
+        Err(question) => {
+            assert_eq!(given, Group::refused(question));
+            assert!(counts.iter().all(|&count| count == 7));
+            assert!(claims.iter().all(|&claim| claim == 8));
+        }
+        Ok(group) => {
+            let n = group.counts.len();
+            assert_eq!(given, Group::given(n as u32, group.header.into()));
+            assert_eq!(counts[..n], group.counts);
+            assert_eq!(claims[..group.claims.len()], group.claims);
+        }
+    }
+}
+
+/// The pointer to a slice, null where the slice is empty.
+fn pointer<T>(slice: &[T]) -> *const T {
+    if slice.is_empty() {
+        ptr::null()
+    } else {
+        slice.as_ptr()
+    }
+}
+
+/// The same for a slice that is written.
+fn mutable<T>(slice: &mut [T]) -> *mut T {
+    if slice.is_empty() {
+        ptr::null_mut()
+    } else {
+        slice.as_mut_ptr()
+    }
+}
+
+#[test]
+fn null_pointers_where_the_count_is_0() {
+    null_where_empty(&[], 0, 0);
+    null_where_empty(&[], 4, 6);
+    for sample in known() {
+        let file = sample.file();
+        for (counts_room, claims_room) in [(0, 0), (0, 300), (300, 0), (300, 300)] {
+            null_where_empty(&file, counts_room, claims_room);
+        }
+    }
+    // Risks without claims are read into no claims.
+    let mut sample = one_claim_of_one(3);
+    sample.risks = vec![vec![]; 3];
+    assert!(second::read(&sample.file(), 3, 0).is_ok());
+    null_where_empty(&sample.file(), 3, 0);
+}
+
+#[test]
+fn write_with_null_pointers_where_the_count_is_0() {
+    let header = four_risks().header;
+    let cases: [(&[u8], &[u32], usize); 6] = [
+        (&[], &[], 0),
+        (&[], &[], 40),
+        (&[0, 0], &[], 0),
+        (&[0, 0], &[], 40),
+        (&[1, 0], &[], 40),
+        (&[1, 0], &[9], 0),
+    ];
+    for (counts, claims, room) in cases {
+        let mut file = vec![0xee; room];
+        let mut length = 77;
+        // SAFETY: each pointer is good for its count; a null pointer has count 0.
+        let answer = unsafe {
+            raw::retro_write(
+                header.into(),
+                pointer(counts),
+                counts.len(),
+                pointer(claims),
+                claims.len(),
+                mutable(&mut file),
+                room,
+                &mut length,
+            )
+        };
+        let mut expected = vec![0xee; room];
+        match second::write(&header, counts, claims, room) {
+            Err(question) => assert_eq!((answer, length), (question, 77)),
+            Ok(bytes) => {
+                assert_eq!((answer, length), (0, bytes.len()));
+                expected[..bytes.len()].copy_from_slice(&bytes);
+            }
+        }
+        assert_eq!(file, expected);
+    }
+}
+
+#[test]
+fn files_as_long_as_the_address_space_has_room_for() {
+    // The answers are document 01's: no question before 8 is about the length, beyond 16 bytes.
+    for power in [20, 29, 32, 35, 44] {
+        let mut memory = Sparse::new(1 << power);
+        let file = memory.bytes();
+        let all = |file: &[u8], answer: u32| {
+            let mut premiums = [0; 16];
+            let (mut n, mut m, mut q, mut sum, mut charge, mut savings) = (0, 0, 0, 0, 0, 0);
+            let rated = calls::rate(file, &mut premiums, &mut n, &mut m, &mut q, &mut sum);
+            let tabled = calls::table(file, 100, &mut charge, &mut savings);
+            let group = calls::read(file, &mut [0; 4], &mut [0; 6]);
+            assert_eq!((rated, tabled, group.refused), (answer, answer, answer));
+        };
+        all(file, 2);
+        file[..34].copy_from_slice(&four_risks().file());
+        all(file, 8);
+        set(file, STANDARD_PREMIUM, 0);
+        all(file, 3);
+    }
+}
+
+#[test]
+fn buffers_as_long_as_the_address_space_has_room_for() {
+    let file = four_risks().file();
+    let mut memory = Sparse::new(1 << 44);
+    let premiums = memory.bytes();
+    let (mut n, mut m, mut q, mut sum) = (0, 0, 0, 0);
+    let answer = calls::rate(&file, premiums, &mut n, &mut m, &mut q, &mut sum);
+    assert_eq!((answer, n, m, q, sum), (0, 4, 6_700_000, 3_300_000, 33_600));
+    assert_eq!(premiums[..4], 4_935u32.to_be_bytes());
+
+    let sample = four_risks();
+    let (counts, claims) = (sample.counts(), sample.claims());
+    let written = memory.bytes();
+    let mut length = 0;
+    let answer = calls::write(sample.header.into(), &counts, &claims, written, &mut length);
+    assert_eq!((answer, length), (0, 34));
+    assert_eq!(written[..34], file);
+}

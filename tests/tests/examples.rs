@@ -1,0 +1,79 @@
+//! The example files are what their generator writes, and their expected lines are what the second
+//! rater says.
+
+use retro_tests::{examples, second};
+use std::collections::BTreeMap;
+use std::path::Path;
+use std::process::Command;
+use std::{env, fs, process};
+
+/// The files of a folder by name.
+fn files(folder: &Path) -> BTreeMap<String, Vec<u8>> {
+    let mut files = BTreeMap::new();
+    for entry in fs::read_dir(folder).unwrap() {
+        let path = entry.unwrap().path();
+        let name = path.file_name().unwrap().to_str().unwrap().to_string();
+        files.insert(name, fs::read(&path).unwrap());
+    }
+    files
+}
+
+/// Runs a program on a folder.
+fn run(program: &str, folder: &Path) {
+    let status = Command::new(program).arg(folder).status().unwrap();
+    assert!(status.success(), "{program}");
+}
+
+#[test]
+fn examples_are_what_the_generator_writes() {
+    let folder = env::temp_dir().join(format!("retro-examples-{}", process::id()));
+    run(env!("CARGO_BIN_EXE_example-groups"), &folder);
+    run(env!("CARGO_BIN_EXE_expected"), &folder);
+    let made = files(&folder);
+    fs::remove_dir_all(&folder).unwrap();
+    let kept = files(&examples());
+    assert_eq!(
+        made.keys().collect::<Vec<_>>(),
+        kept.keys().collect::<Vec<_>>()
+    );
+    for (name, bytes) in &made {
+        assert!(
+            kept[name] == *bytes,
+            "examples/{name} is not what is written"
+        );
+    }
+}
+
+#[test]
+fn there_is_an_example_for_each_question_that_a_file_alone_can_fail() {
+    for question in 1..=12 {
+        let file = fs::read(examples().join(format!("refused-{question:02}.group"))).unwrap();
+        assert_eq!(second::rate(&file, 1_020), Err(question));
+        let expected = fs::read(examples().join(format!("refused-{question:02}.expected")));
+        assert_eq!(
+            expected.unwrap(),
+            format!("refused {question}\n").as_bytes()
+        );
+    }
+}
+
+#[test]
+fn rated_examples_are_of_their_kind() {
+    let read = |name: &str| {
+        let file = fs::read(examples().join(name).with_extension("group")).unwrap();
+        second::read(&file, 255, 16_065).unwrap()
+    };
+    assert_eq!(read("four-risks").counts, [0, 2, 1, 3]);
+    assert_eq!(read("entry-ratio").header.mark_kind, 1);
+    assert_eq!(read("no-limit").header.loss_limit, 0);
+    assert_eq!(read("largest").counts, [63; 255]);
+    let four_risks = fs::read_to_string(examples().join("four-risks.expected")).unwrap();
+    assert_eq!(
+        four_risks,
+        "group 4 6700000 3300000 33600\n\
+         1 0 0 2000 4935\n\
+         2 4000 4000 4000 7245\n\
+         3 7000 5000 5000 8400\n\
+         4 13000 12000 9000 13020\n"
+    );
+}

@@ -1,0 +1,8 @@
+//! The worked figures of document 01, its questions, its round trip between
+//! Read and Write, its balance statement and the program.
+
+mod balance;
+mod program;
+mod questions;
+mod round_trip;
+mod worked;
