@@ -102,11 +102,13 @@ pub fn rate(file: &[u8], premiums: &mut [u8]) -> Result<Rated, u32> {
         if reader.left() < 20 * count as i64 {
             return Err(8);
         }
+        let mut sum = 0;
         for _ in 0..count {
             let claim = reader.take(20);
             sum_total += claim;
-            *limited += claim.min(limit);
+            sum += claim.min(limit);
         }
+        *limited = sum;
     }
     let fill = reader.left();
     if !(0..8).contains(&fill) {
@@ -145,7 +147,7 @@ pub fn rate(file: &[u8], premiums: &mut [u8]) -> Result<Rated, u32> {
     let divisor = 10_000_000 * risks;
     let mut billed = 0;
     for (a, four) in limited.iter().zip(premiums.chunks_exact_mut(4)) {
-        let ratable = (*a).clamp(minimum, maximum);
+        let ratable = (*a).max(minimum).min(maximum);
         let unrounded = tax * (basic + excess + risks * conversion * ratable);
         let premium = (unrounded + divisor / 2) / divisor;
         four.copy_from_slice(&(premium as u32).to_be_bytes());
