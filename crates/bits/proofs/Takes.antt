@@ -10,6 +10,8 @@ use lib.ListN.{length, getD, List·getD-eq-default}
 use lib.Pow.{pow-add, shl-lt, shr-shr}
 use lib.Bits.{bitOr, or-shifted}
 use Rattle.plan.specs.Field.{field}
+use Rattle.bits.specs.Words.{Joins}
+use Rattle.bits.proofs.Words.{joins}
 use Rattle.plan.proofs.Fields.{field-lt, field-split, field-part, field-at, field-byte}
 
 -- past the end a byte is 0
@@ -18,33 +20,42 @@ byte-past s i h =
     let none : getD s i 0 ≡ 0 = List·getD-eq-default s 0 h in
     field-byte s i (rw none (omega arith)) ∙ none
 
--- x is byte k of the eight from byte i on, at its place in their word
+-- x is byte k of the four from byte i on, at its place in their half of a word
 abbrev AtPlace : List ℕ → ℕ → ℕ → ℕ → Type 0
-AtPlace s i k x = x ≡ field s (8 * (i + k)) 8 * 2 ^ (56 - 8 * k)
+AtPlace s i k x = x ≡ field s (8 * (i + k)) 8 * 2 ^ (24 - 8 * k)
 
--- the first k bytes of a word, and the next
-next-byte : (s : List ℕ) (i k : ℕ) {x y : ℕ} → x ≡ field s (8 * i) (8 * k) * 2 ^ (8 + (56 - 8 * k))
-    → AtPlace s i k y → bitOr x y ≡ field s (8 * i) (8 * k + 8) * 2 ^ (56 - 8 * k)
+-- the first k bytes of a half, and the next
+next-byte : (s : List ℕ) (i k : ℕ) {x y : ℕ} → x ≡ field s (8 * i) (8 * k) * 2 ^ (8 + (24 - 8 * k))
+    → AtPlace s i k y → bitOr x y ≡ field s (8 * i) (8 * k + 8) * 2 ^ (24 - 8 * k)
 next-byte s i k p q =
     let first : ℕ = field s (8 * i) (8 * k) in
     let next : ℕ = field s (8 * (i + k)) 8 in
-    let rest : ℕ = 56 - 8 * k in
+    let rest : ℕ = 24 - 8 * k in
     let here : field s (8 * i + 8 * k) 8 ≡ next = field-at s 8 (omega arith) in
     let both = field-split s (8 * i) (8 * k) 8 ∙ ap (λ (x : ℕ). first * 2 ^ 8 + x) here in
     ap₂ bitOr p q
     ∙ or-shifted first (8 + rest) (next * 2 ^ rest) (shl-lt 8 rest (field-lt s (8 * (i + k)) 8))
     ∙ omega (arith, ap (λ (x : ℕ). first * x) (pow-add 2 8 rest), ap (λ (x : ℕ). x * 2 ^ rest) both)
 
--- eight bytes are the word
-pub eight-bytes : (s : List ℕ) (i : ℕ) {a b c d e f g h : ℕ}
+-- four bytes are the half
+pub four-bytes : (s : List ℕ) (i : ℕ) {a b c d : ℕ}
     → AtPlace s i 0 a → AtPlace s i 1 b → AtPlace s i 2 c → AtPlace s i 3 d
-    → AtPlace s i 4 e → AtPlace s i 5 f → AtPlace s i 6 g → AtPlace s i 7 h
-    → bitOr (bitOr (bitOr (bitOr (bitOr (bitOr (bitOr a b) c) d) e) f) g) h ≡ field s (8 * i) 64
-eight-bytes s i {a} p0 p1 p2 p3 p4 p5 p6 p7 =
-    let one : a ≡ field s (8 * i) 8 * 2 ^ 56 = p0 ∙ ap (λ (x : ℕ). x * 2 ^ 56) (field-at s 8 (omega arith)) in
-    let four = next-byte s i 3 (next-byte s i 2 (next-byte s i 1 one p1) p2) p3 in
-    let seven = next-byte s i 6 (next-byte s i 5 (next-byte s i 4 four p4) p5) p6 in
-    next-byte s i 7 seven p7 ∙ mul-one (field s (8 * i) 64)
+    → bitOr (bitOr (bitOr a b) c) d ≡ field s (8 * i) 32
+four-bytes s i {a} p0 p1 p2 p3 =
+    let one : a ≡ field s (8 * i) 8 * 2 ^ 24 = p0 ∙ ap (λ (x : ℕ). x * 2 ^ 24) (field-at s 8 (omega arith)) in
+    next-byte s i 3 (next-byte s i 2 (next-byte s i 1 one p1) p2) p3 ∙ mul-one (field s (8 * i) 32)
+
+-- two halves can be joined
+pub halves-join : (s : List ℕ) (i : ℕ) {x y : ℕ} → x ≡ field s (8 * i) 32 → y ≡ field s (8 * (i + 4)) 32
+    → Joins x 32 y
+halves-join s i p q =
+    joins 32 32 (rw p (field-lt s (8 * i) 32)) (rw q (field-lt s (8 * (i + 4)) 32)) (omega arith, omega arith)
+
+-- and are the word
+pub two-halves : (s : List ℕ) (i : ℕ) {x y : ℕ} → x ≡ field s (8 * i) 32 → y ≡ field s (8 * (i + 4)) 32
+    → x * 2 ^ 32 + y ≡ field s (8 * i) 64
+two-halves s i p q =
+    ap₂ (λ (x y : ℕ). x * 2 ^ 32 + y) p (q ∙ field-at s 32 (omega arith)) ∙ sym (field-split s (8 * i) 32 32)
 
 -- a field in the word from its first byte on
 pub field-in-word : (s : List ℕ) (at w : ℕ) → w ≤ 32

@@ -5,7 +5,7 @@ use Prim.Native.Nat.{ℕ, _+_, _-_, _*_, _/_, _%_, _^_, _≤_, _<_}
 use native.Mathlib.Nat.{one-mul, mod-eq-of-lt, mod-lt, lt-of-lt-of-le}
 use native.Mathlib.Omega.{arith}
 use lib.Arith.{digits-lt}
-use lib.Pow.{pow-pos, pow-lt, pow-mono, pow-add, shl-lt, shr-lt, shr-shr, split, high, low as low-of}
+use lib.Pow.{pow-pos, pow-lt, pow-mono, pow-add, shl-lt, shr-lt, shl-shr, shr-shr, split, high, low as low-of, field as field-of}
 use lib.Bits.{bitAnd, bitOr, and-mask, or-shifted}
 use Rattle.bits.specs.Words.{Joins, Inserted}
 
@@ -33,6 +33,22 @@ joins i n p q w = record { narrow = w .1; fits = q; room = lt-of-lt-of-le (shl-l
 -- and are a number of i + n bits
 pub joined-lt : (i n k : ℕ) {h l : ℕ} → h < 2 ^ i → l < 2 ^ n → i + n ≤ k → h * 2 ^ n + l < 2 ^ k
 joined-lt i n k p q w = lt-of-lt-of-le (rw (pow-add 2 i n) (digits-lt p q)) (pow-mono w)
+
+-- shifted to the left by s in 64 bits, then to the right, x is its w bits after the s highest
+pub after-skip : (x s w : ℕ) → s < 8 → w ≤ 32
+    → (x * 2 ^ s) % 2 ^ 64 / 2 ^ 1 / 2 ^ (63 - w) ≡ x / 2 ^ 1 / 2 ^ (63 - s - w) % 2 ^ w
+after-skip x s w p q =
+    let k : ℕ = 1 + (63 - w) in
+    let rest : ℕ = 63 - s - w in
+    let all : 64 ≡ w + k = omega arith in
+    let drop : k ≡ s + (1 + rest) = omega arith in
+    shr-shr ((x * 2 ^ s) % 2 ^ 64) 1 (63 - w)
+    ∙ ap (λ (j : ℕ). (x * 2 ^ s) % 2 ^ j / 2 ^ k) all
+    ∙ field-of (x * 2 ^ s) w k
+    ∙ ap (λ (j : ℕ). x * 2 ^ s / 2 ^ j % 2 ^ w) drop
+    ∙ ap (λ (y : ℕ). y % 2 ^ w) (sym (shr-shr (x * 2 ^ s) s (1 + rest)))
+    ∙ ap (λ (y : ℕ). y / 2 ^ (1 + rest) % 2 ^ w) (shl-shr x s)
+    ∙ ap (λ (y : ℕ). y % 2 ^ w) (sym (shr-shr x 1 rest))
 
 -- the bits of x above its `left` lowest, and the n next, are those above its left - n lowest
 pub next-bits : (x left n : ℕ) → n ≤ left

@@ -29,9 +29,7 @@ impl BitPlace {
         let at = self.at;
         let word = word_at(file, at / 8);
         let skip = (at % 8) as u32;
-        let rest = 63 - skip - width;
-        // two shifts, since a field of no bits would be one by 64
-        let value = extract(word >> 1, rest, width) as u32;
+        let value = bits_after(word, skip, width) as u32;
         let next = at + width as usize;
         Taken {
             value,
@@ -67,6 +65,15 @@ fn extract(x: u64, low: u32, n: u32) -> u64
 
 // ---- taken: the word of eight bytes
 
+// The n bits of a word after its `skip` highest.
+fn bits_after(word: u64, skip: u32, n: u32) -> u64
+    requires { ⌜ (skip < 8) × (n ≤ 32) ⌝ }
+    ensures { λ r. ⌜ r ≡ word / 2 ^ 1 / 2 ^ (63 - skip - n) % 2 ^ n ⌝ }
+{
+    // two shifts to the right, since a field of no bits would be one by 64
+    ((word << skip) >> 1) >> (63 - n)
+}
+
 // The 64 bits from byte i on.
 fn word_at(file: &[u8], i: usize) -> u64
     requires { ⌜ i < 2 ^ 61 ⌝ }
@@ -79,19 +86,16 @@ fn word_at(file: &[u8], i: usize) -> u64
     }
 }
 
-// The same where all eight bytes are in the file, in a form that can compile to one load.
+// The same where all eight bytes are in the file.
 fn word_inside(file: &[u8], i: usize) -> u64
     requires { ⌜ i + 8 ≤ length (now file) ⌝ }
     ensures { λ r. ⌜ r ≡ field (now (file .entry)) (8 * i) 64 ⌝ }
 {
-    byte(file, i, 0)
-        | byte(file, i, 1)
-        | byte(file, i, 2)
-        | byte(file, i, 3)
-        | byte(file, i, 4)
-        | byte(file, i, 5)
-        | byte(file, i, 6)
-        | byte(file, i, 7)
+    join(
+        half_inside(file, i) as u64,
+        32,
+        half_inside(file, i + 4) as u64,
+    )
 }
 
 // The same near the file's end.
@@ -99,28 +103,44 @@ fn word_at_end(file: &[u8], i: usize) -> u64
     requires { ⌜ i < 2 ^ 61 ⌝ }
     ensures { λ r. ⌜ r ≡ field (now (file .entry)) (8 * i) 64 ⌝ }
 {
+    join(
+        half_at_end(file, i) as u64,
+        32,
+        half_at_end(file, i + 4) as u64,
+    )
+}
+
+// The 32 bits from byte i on where all four bytes are in the file, in a form that can compile to one load.
+fn half_inside(file: &[u8], i: usize) -> u32
+    requires { ⌜ i + 4 ≤ length (now file) ⌝ }
+    ensures { λ r. ⌜ r ≡ field (now (file .entry)) (8 * i) 32 ⌝ }
+{
+    byte(file, i, 0) | byte(file, i, 1) | byte(file, i, 2) | byte(file, i, 3)
+}
+
+// The same near the file's end.
+fn half_at_end(file: &[u8], i: usize) -> u32
+    requires { ⌜ i < 2 ^ 62 ⌝ }
+    ensures { λ r. ⌜ r ≡ field (now (file .entry)) (8 * i) 32 ⌝ }
+{
     byte_or_zero(file, i, 0)
         | byte_or_zero(file, i, 1)
         | byte_or_zero(file, i, 2)
         | byte_or_zero(file, i, 3)
-        | byte_or_zero(file, i, 4)
-        | byte_or_zero(file, i, 5)
-        | byte_or_zero(file, i, 6)
-        | byte_or_zero(file, i, 7)
 }
 
-// Byte k of the eight from byte i on, at its place in their word: the first is the most significant.
-fn byte(file: &[u8], i: usize, k: usize) -> u64
-    requires { ⌜ (k < 8) × (i + k < length (now file)) ⌝ }
-    ensures { λ r. ⌜ r ≡ field (now (file .entry)) (8 * (i + k)) 8 * 2 ^ (56 - 8 * k) ⌝ }
+// Byte k of the four from byte i on, at its place in their half of a word: the first is the most significant.
+fn byte(file: &[u8], i: usize, k: usize) -> u32
+    requires { ⌜ (k < 4) × (i + k < length (now file)) ⌝ }
+    ensures { λ r. ⌜ r ≡ field (now (file .entry)) (8 * (i + k)) 8 * 2 ^ (24 - 8 * k) ⌝ }
 {
-    (file[i + k] as u64) << (56 - 8 * k)
+    (file[i + k] as u32) << (24 - 8 * k)
 }
 
 // The same, and 0 past the file's end.
-fn byte_or_zero(file: &[u8], i: usize, k: usize) -> u64
-    requires { ⌜ (k < 8) × (i < 2 ^ 61) ⌝ }
-    ensures { λ r. ⌜ r ≡ field (now (file .entry)) (8 * (i + k)) 8 * 2 ^ (56 - 8 * k) ⌝ }
+fn byte_or_zero(file: &[u8], i: usize, k: usize) -> u32
+    requires { ⌜ (k < 4) × (i < 2 ^ 62) ⌝ }
+    ensures { λ r. ⌜ r ≡ field (now (file .entry)) (8 * (i + k)) 8 * 2 ^ (24 - 8 * k) ⌝ }
 {
     if file.len() <= i + k {
         return 0;

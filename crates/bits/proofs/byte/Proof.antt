@@ -25,6 +25,9 @@ mul-result c = search needs
 sub-result : tie.Need-sub-result
 sub-result c = search needs
 
+cast-result-2 : tie.Need-cast-result-2
+cast-result-2 c = search needs
+
 shl-result : tie.Need-shl-result
 shl-result c = search needs
 
@@ -32,8 +35,8 @@ returns : tie.Need-returns
 returns c =
     let a = c .before .args in
     let known = c .shared-slice-known .given (a .i + a .k) .fits in
-    shl-exact 8 (56 - 8 * a .k) 64 known (omega arith)
-    ∙ ap (λ (x : ℕ). x * 2 ^ (56 - 8 * a .k)) (sym (field-byte (a .file .now) (a .i + a .k) known))
+    shl-exact 8 (24 - 8 * a .k) 32 known (omega arith)
+    ∙ ap (λ (x : ℕ). x * 2 ^ (24 - 8 * a .k)) (sym (field-byte (a .file .now) (a .i + a .k) known))
 
 pub byte-spec : {M : Type 1} → statement M
 byte-spec =
@@ -44,5 +47,6 @@ byte-spec =
     cast-result
     mul-result
     sub-result
+    cast-result-2
     shl-result
     returns)

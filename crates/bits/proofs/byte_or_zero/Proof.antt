@@ -13,7 +13,7 @@ add-if1 c = search needs
 returns : tie.Need-returns
 returns c =
     let a = c .before .before .args in
-    let place : ℕ = 2 ^ (56 - 8 * a .k) in
+    let place : ℕ = 2 ^ (24 - 8 * a .k) in
     let none = byte-past (a .file .now) (a .i + a .k) (c .if1 .taken) in
     sym (ap (λ (x : ℕ). x * place) none ∙ zero-mul place)
 

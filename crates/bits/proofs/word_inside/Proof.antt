@@ -1,52 +1,41 @@
--- The word is eight bytes, each at its place. Assumes nothing.
+-- The word is two halves. Assumes nothing.
+use mathlib.Core.Path.{_∙_}
 use borrow.Author.Needs.{needs}
-use Rattle.bits.proofs.Takes.{eight-bytes}
+use Rattle.bits.proofs.Takes.{two-halves, halves-join}
 use Rattle.bits.proofs.word_inside.Statement.{statement}
 use Rattle.bits.proofs.word_inside.Tie as tie
 
-byte-requires : tie.Need-byte-requires
-byte-requires c κs = search needs
+half-inside-requires : tie.Need-half-inside-requires
+half-inside-requires c κs = search needs
 
-byte-requires-2 : tie.Need-byte-requires-2
-byte-requires-2 c κs = search needs
+cast-join : tie.Need-cast-join
+cast-join c = search needs
 
-byte-requires-3 : tie.Need-byte-requires-3
-byte-requires-3 c κs = search needs
+add-half-inside : tie.Need-add-half-inside
+add-half-inside c = search needs
 
-byte-requires-4 : tie.Need-byte-requires-4
-byte-requires-4 c κs = search needs
+half-inside-requires-2 : tie.Need-half-inside-requires-2
+half-inside-requires-2 c κs = search needs
 
-byte-requires-5 : tie.Need-byte-requires-5
-byte-requires-5 c κs = search needs
+cast-join-2 : tie.Need-cast-join-2
+cast-join-2 c = search needs
 
-byte-requires-6 : tie.Need-byte-requires-6
-byte-requires-6 c κs = search needs
-
-byte-requires-7 : tie.Need-byte-requires-7
-byte-requires-7 c κs = search needs
-
-byte-requires-8 : tie.Need-byte-requires-8
-byte-requires-8 c κs = search needs
+join-requires : tie.Need-join-requires
+join-requires c κs = halves-join _ _ (c .before .half-inside .ensures) (c .half-inside2 .ensures)
 
 returns : tie.Need-returns
 returns c =
-    let four = c .before .before .before .before in
-    eight-bytes _ _
-    (four .before .before .before .byte .ensures) (four .before .before .byte2 .ensures)
-    (four .before .byte3 .ensures) (four .byte4 .ensures)
-    (c .before .before .before .byte5 .ensures) (c .before .before .byte6 .ensures)
-    (c .before .byte7 .ensures) (c .byte8 .ensures)
+    c .join .ensures
+    ∙ two-halves _ _ (c .before .before .half-inside .ensures) (c .before .half-inside2 .ensures)
 
 pub word-inside-spec : {M : Type 1} → statement M
 word-inside-spec =
     tie.close
     (tie.spec
-    byte-requires
-    byte-requires-2
-    byte-requires-3
-    byte-requires-4
-    byte-requires-5
-    byte-requires-6
-    byte-requires-7
-    byte-requires-8
+    half-inside-requires
+    cast-join
+    add-half-inside
+    half-inside-requires-2
+    cast-join-2
+    join-requires
     returns)

@@ -14,23 +14,17 @@ word-at-requires c κs = search needs
 cast-skip : tie.Need-cast-skip
 cast-skip c = search needs
 
-sub-rest : tie.Need-sub-rest
-sub-rest c = search needs
-
-sub-rest-2 : tie.Need-sub-rest-2
-sub-rest-2 c = search needs
-
-extract-requires : tie.Need-extract-requires
-extract-requires c κs = search needs
+bits-after-requires : tie.Need-bits-after-requires
+bits-after-requires c κs = search needs
 
 -- the word's part is the field
-value-is : (c : tie.After-extract) → let a = c .before .before .before .args in
-    c .extract .result ≡ field (a .file .now) (a .self .at) (a .width)
+value-is : (c : tie.After-bits-after) → let a = c .before .before .before .args in
+    c .bits-after .result ≡ field (a .file .now) (a .self .at) (a .width)
 value-is c =
     let e = c .before .before .before in
     let a = e .args in
     let rest : ℕ = 63 - a .self .at % 8 - a .width in
-    c .extract .ensures
+    c .bits-after .ensures
     ∙ ap (λ (x : ℕ). x / 2 ^ 1 / 2 ^ rest % 2 ^ a .width) (c .before .word-at .ensures)
     ∙ sym (field-in-word (a .file .now) (a .self .at) (a .width) (e .pre .narrow))
 
@@ -52,9 +46,7 @@ take-spec =
     (tie.spec
     word-at-requires
     cast-skip
-    sub-rest
-    sub-rest-2
-    extract-requires
+    bits-after-requires
     cast-value
     add-next
     returns)
