@@ -169,8 +169,20 @@ fn put_in_byte(out: &mut [u8], at: usize, n: u32, part: u64)
     out[i] = insert(out[i], low, n, part);
 }
 
-// The byte with `part` in the n bits above its `low` lowest.
+// The byte with `part` in the n bits above its `low` lowest; of a whole byte nothing old is kept.
 fn insert(old: u8, low: u32, n: u32, part: u64) -> u8
+    requires { ⌜ (low + n ≤ 8) × (part < 2 ^ n) ⌝ }
+    ensures { λ r. ⌜ Inserted old low n part r ⌝ }
+{
+    if n == 8 {
+        part as u8
+    } else {
+        between(old, low, n, part)
+    }
+}
+
+// The same, by shifts and masks.
+fn between(old: u8, low: u32, n: u32, part: u64) -> u8
     requires { ⌜ (low + n ≤ 8) × (part < 2 ^ n) ⌝ }
     ensures { λ r. ⌜ Inserted old low n part r ⌝ }
 {

@@ -1,62 +1,33 @@
--- The new byte is the bits above, the part and the bits below, joined. Assumes nothing.
-use mathlib.Core.Path.{_≡_, ap, _∙_}
-use Prim.Native.Nat.{ℕ, _%_, _^_}
-use native.Mathlib.Nat.{div-one}
+-- A whole byte is the part itself: no bits are above it and none below. Else it is `between`'s. Assumes nothing.
+use mathlib.Core.Path.{_≡_, sym, subst, subst₂}
+use Prim.Native.Nat.{ℕ, _^_, _<_}
+use native.Mathlib.Omega.{arith}
 use borrow.Author.Needs.{needs}
-use Rattle.bits.proofs.Words.{Parts, parts}
+use Rattle.bits.specs.Words.{Inserted}
 use Rattle.bits.proofs.insert.Statement.{statement}
 use Rattle.bits.proofs.insert.Tie as tie
 
-add-join : tie.Need-add-join
-add-join c = search needs
+fits : {n part : ℕ} → n ≡ 8 → part < 2 ^ n → part < 256
+fits {n} {part} e h = subst (λ (k : ℕ). part < 2 ^ k) e h
 
-cast-join : tie.Need-cast-join
-cast-join c = search needs
-
-shr-join : tie.Need-shr-join
-shr-join c = search needs
-
-parts-of : (c : tie.Start) → Parts (c .args .old) (c .args .low) (c .args .n) (c .args .part)
-parts-of c =
-    let a = c .args in
-    parts (a .old) (a .low) (a .n) (a .part) (c .fits .old .fits) (c .pre .0) (c .pre .1)
-
-join-requires : tie.Need-join-requires
-join-requires c κs = parts-of c .first
-
-extract-requires : tie.Need-extract-requires
-extract-requires c κs = search needs
-
--- with no shift `extract` gives the bits below
-below-is : (c : tie.After-extract) → let a = c .before .before .args in c .extract .result ≡ a .old % 2 ^ a .low
-below-is c =
-    let a = c .before .before .args in
-    c .extract .ensures ∙ ap (λ (x : ℕ). x % 2 ^ a .low) (div-one (a .old))
-
-join-requires-2 : tie.Need-join-requires-2
-join-requires-2 c κs = rw (c .before .join .ensures, below-is c) (parts-of (c .before .before) .second)
+whole : (b part : ℕ) → b < 256 → part < 256 → Inserted b 0 8 part part
+whole b part old new = record { above = omega arith; here = omega arith; below = omega arith }
 
 cast-result : tie.Need-cast-result
-cast-result c = record {
-  fits =
-      rw (c .join2 .ensures, c .before .before .join .ensures, below-is (c .before))
-      (parts-of (c .before .before .before) .byte);
-}
+cast-result c = record { fits = fits (c .if1 .taken) (c .before .pre .1) }
+
+between-requires : tie.Need-between-requires
+between-requires c κs = search needs
 
 returns : tie.Need-returns
 returns c =
-    rw (c .join2 .ensures, c .before .before .join .ensures, below-is (c .before))
-    (parts-of (c .before .before .before) .is)
+    let a = c .before .args in
+    let low : 0 ≡ a .low = omega (arith, c .if1 .taken, c .before .pre .0) in
+    subst₂ (λ (l n : ℕ). Inserted (a .old) l n (a .part) (a .part)) low (sym (c .if1 .taken))
+    (whole (a .old) (a .part) (c .before .fits .old .fits) (fits (c .if1 .taken) (c .before .pre .1)))
+
+returns-2 : tie.Need-returns-2
+returns-2 c = search needs
 
 pub insert-spec : {M : Type 1} → statement M
-insert-spec =
-    tie.close
-    (tie.spec
-    add-join
-    cast-join
-    shr-join
-    join-requires
-    extract-requires
-    join-requires-2
-    cast-result
-    returns)
+insert-spec = tie.close (tie.spec cast-result between-requires returns returns-2)
