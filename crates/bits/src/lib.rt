@@ -21,13 +21,23 @@ pub struct Taken {
 }
 
 impl BitPlace {
-    // The field of `width` bits at this place, and the next place. Its bits lie in one word, so there is no loop.
+    // The field of `width` bits at this place, and the next place.
     pub fn take(self, file: &[u8], width: u32) -> Taken
         requires { ⌜ Reach (self .at) width ⌝ }
         ensures { λ r. ⌜ Took (now (file .entry)) (self .at) width (r .value) (r .next .at) ⌝ }
     {
+        let reach = self.at / 8 + 8;
+        self.take_within(file, width, reach)
+    }
+
+    // The same, of a field whose word ends at byte `reach` or before: one test of the file's length will do for many fields
+    // with the same `reach`. A field's bits lie in one word, so there is no loop.
+    pub fn take_within(self, file: &[u8], width: u32, reach: usize) -> Taken
+        requires { ⌜ Reach (self .at) width × (self .at / 8 + 8 ≤ reach) ⌝ }
+        ensures { λ r. ⌜ Took (now (file .entry)) (self .at) width (r .value) (r .next .at) ⌝ }
+    {
         let at = self.at;
-        let word = word_at(file, at / 8);
+        let word = word_within(file, at / 8, reach);
         let skip = (at % 8) as u32;
         let value = bits_after(word, skip, width) as u32;
         let next = at + width as usize;
@@ -72,6 +82,18 @@ fn bits_after(word: u64, skip: u32, n: u32) -> u64
 {
     // two shifts to the right, since a field of no bits would be one by 64
     ((word << skip) >> 1) >> (63 - n)
+}
+
+// The 64 bits from byte i on, which end at byte `reach` or before.
+fn word_within(file: &[u8], i: usize, reach: usize) -> u64
+    requires { ⌜ (i < 2 ^ 61) × (i + 8 ≤ reach) ⌝ }
+    ensures { λ r. ⌜ r ≡ field (now (file .entry)) (8 * i) 64 ⌝ }
+{
+    if reach <= file.len() {
+        word_inside(file, i)
+    } else {
+        word_at(file, i)
+    }
 }
 
 // The 64 bits from byte i on.

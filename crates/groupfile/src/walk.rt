@@ -46,10 +46,12 @@ fn claims_at(file: &[u8], place: BitPlace, count: u32, limit: u32) -> Risk
 {
     let mut total: u32 = 0;
     let mut limited: u32 = 0;
+    // no claim's word ends after this byte
+    let reach = (place.at + 20 * count as usize) / 8 + 8;
     let mut next = place;
     let mut i: u32 = 0;
     while i < count {
-        let claim = next.take(file, 20);
+        let claim = next.take_within(file, 20, reach);
         total += claim.value;
         limited += limited_to(limit, claim.value);
         next = claim.next;

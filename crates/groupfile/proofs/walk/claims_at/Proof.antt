@@ -1,7 +1,7 @@
 -- `groupfile::walk::claims_at` meets its contract. The invariant: the sums so far and those of the claims to come are the sums
 -- of all. The measure is the claims to come. Assumes nothing.
 use mathlib.Core.Path.{_≡_, refl, sym, ap, _∙_}
-use Prim.Native.Nat.{ℕ, _+_, _-_, _*_, _≤_}
+use Prim.Native.Nat.{ℕ, _+_, _-_, _*_, _/_, _≤_}
 use native.Mathlib.Omega.{arith}
 use borrow.Author.Needs.{needs}
 use Rattle.plan.specs.Field.{field}
@@ -13,32 +13,45 @@ use Rattle.groupfile.proofs.walk.claims_at.Statement.{statement}
 use Rattle.groupfile.proofs.walk.claims_at.Tie as tie
 
 abbrev Inv-loop : tie.InvT-loop
-Inv-loop file count limit total₀ limited₀ next₀ i₀ total limited next i =
+Inv-loop file count limit total₀ limited₀ reach next₀ i₀ total limited next i =
     Summing file (next₀ .at) count limit i (next .at) total limited
 
 abbrev μ-loop : tie.MeasureT-loop
-μ-loop file count limit total₀ limited₀ next₀ i₀ total limited next i = count - i
+μ-loop file count limit total₀ limited₀ reach next₀ i₀ total limited next i = count - i
+
+mul-reach : tie.Need-mul-reach Inv-loop μ-loop
+mul-reach c = omega arith
+
+add-reach : tie.Need-add-reach Inv-loop μ-loop
+add-reach c = omega arith
+
+add-reach-2 : tie.Need-add-reach-2 Inv-loop μ-loop
+add-reach-2 c = omega arith
 
 loop-holds : tie.Need-loop-holds Inv-loop μ-loop
-loop-holds c = let a = c .before .args in summing-starts (a .file .now) (a .place .at) (a .count) (a .limit)
+loop-holds c = let a = c .before .before .args in summing-starts (a .file .now) (a .place .at) (a .count) (a .limit)
 
-take-requires : tie.Need-take-requires Inv-loop μ-loop
-take-requires c κs = omega arith
+take-within-requires : tie.Need-take-within-requires Inv-loop μ-loop
+take-within-requires c κs =
+    let a = c .before .before .before .before .args in
+    let w = c .before .loop .inv in
+    let ends : c .before .loop .next .at / 8 + 8 ≤ (a .place .at + 20 * a .count) / 8 + 8 = omega (arith, w .place, w .within) in
+    (omega arith, ends)
 
 add-total : tie.Need-add-total Inv-loop μ-loop
 add-total c =
     let l = c .before .before .before .loop in
-    let f = c .before .before .before .before .before .args .file .now in
-    omega (arith, field-lt f (l .next .at) 20, c .before .take .ensures .is)
+    let f = c .before .before .before .before .before .before .args .file .now in
+    omega (arith, field-lt f (l .next .at) 20, c .before .take-within .ensures .is)
 
 limited-to-requires : tie.Need-limited-to-requires Inv-loop μ-loop
 limited-to-requires c κs = search needs
 
 add-limited : tie.Need-add-limited Inv-loop μ-loop
 add-limited c =
-    let e = c .before .before .before .before .before .before .args in
+    let e = c .before .before .before .before .before .before .before .args in
     let l = c .before .before .before .before .loop in
-    let v = c .before .before .take in
+    let v = c .before .before .take-within in
     omega (
       arith,
       field-lt (e .file .now) (l .next .at) 20,
@@ -56,7 +69,7 @@ loop-less c = omega arith
 loop-again : tie.Need-loop-again Inv-loop μ-loop
 loop-again c =
     let h = c .before .before .before .before in
-    summing-taken (h .before .loop .inv) (h .loop-test .taken) (c .before .before .before .take .ensures) (c .before .limited-to .ensures)
+    summing-taken (h .before .loop .inv) (h .loop-test .taken) (c .before .before .before .take-within .ensures) (c .before .limited-to .ensures)
 
 returns : tie.Need-returns Inv-loop μ-loop
 returns c =
@@ -70,8 +83,11 @@ claims-at-spec =
     (tie.spec
     Inv-loop
     μ-loop
+    mul-reach
+    add-reach
+    add-reach-2
     loop-holds
-    take-requires
+    take-within-requires
     add-total
     limited-to-requires
     add-limited

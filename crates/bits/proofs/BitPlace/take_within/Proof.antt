@@ -5,11 +5,11 @@ use borrow.Author.Needs.{needs}
 use Rattle.plan.specs.Field.{field}
 use Rattle.plan.proofs.Fields.{field-below}
 use Rattle.bits.proofs.Takes.{field-in-word}
-use Rattle.bits.proofs.BitPlace.take.Statement.{statement}
-use Rattle.bits.proofs.BitPlace.take.Tie as tie
+use Rattle.bits.proofs.BitPlace.take_within.Statement.{statement}
+use Rattle.bits.proofs.BitPlace.take_within.Tie as tie
 
-word-at-requires : tie.Need-word-at-requires
-word-at-requires c κs = search needs
+word-within-requires : tie.Need-word-within-requires
+word-within-requires c κs = search needs
 
 cast-skip : tie.Need-cast-skip
 cast-skip c = search needs
@@ -25,14 +25,14 @@ value-is c =
     let a = e .args in
     let rest : ℕ = 63 - a .self .at % 8 - a .width in
     c .bits-after .ensures
-    ∙ ap (λ (x : ℕ). x / 2 ^ 1 / 2 ^ rest % 2 ^ a .width) (c .before .word-at .ensures)
-    ∙ sym (field-in-word (a .file .now) (a .self .at) (a .width) (e .pre .narrow))
+    ∙ ap (λ (x : ℕ). x / 2 ^ 1 / 2 ^ rest % 2 ^ a .width) (c .before .word-within .ensures)
+    ∙ sym (field-in-word (a .file .now) (a .self .at) (a .width) (e .pre .0 .narrow))
 
 cast-value : tie.Need-cast-value
 cast-value c =
     let e = c .before .before .before in
     let a = e .args in
-    record { fits = rw (value-is c) (field-below (a .file .now) (a .self .at) (a .width) 32 (e .pre .narrow)) }
+    record { fits = rw (value-is c) (field-below (a .file .now) (a .self .at) (a .width) 32 (e .pre .0 .narrow)) }
 
 add-next : tie.Need-add-next
 add-next c = search needs
@@ -40,11 +40,11 @@ add-next c = search needs
 returns : tie.Need-returns
 returns c = record { is = value-is c; place = refl }
 
-pub take-spec : {M : Type 1} → statement M
-take-spec =
+pub take-within-spec : {M : Type 1} → statement M
+take-within-spec =
     tie.close
     (tie.spec
-    word-at-requires
+    word-within-requires
     cast-skip
     bits-after-requires
     cast-value
