@@ -3,3 +3,4 @@ pub mod Puts
 mod Takes
 mod OneByte
 mod Words
+mod Parts

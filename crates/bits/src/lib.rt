@@ -63,6 +63,21 @@ impl BitPlace {
         }
         BitPlace { at }
     }
+
+    // Puts a field of 32 bits that begins with a byte: four whole bytes.
+    pub fn put_bytes(self, out: &mut [u8], value: u32) -> BitPlace
+        requires { ⌜ Room (now out) (self .at) 32 value × (self .at % 8 ≡ 0) ⌝ }
+        ensures next { λ r. ⌜ r .at ≡ self .at + 32 ⌝ }
+        ensures put { λ r. ⌜ Put (now (out .entry)) (self .at) 32 value (now (out .exit)) ⌝ }
+    {
+        let at = self.at;
+        let v = value as u64;
+        put_in_byte(out, at, 8, extract(v, 24, 8));
+        put_in_byte(out, at + 8, 8, extract(v, 16, 8));
+        put_in_byte(out, at + 16, 8, extract(v, 8, 8));
+        put_in_byte(out, at + 24, 8, extract(v, 0, 8));
+        BitPlace { at: at + 32 }
+    }
 }
 
 // The n bits of x above its `low` lowest.

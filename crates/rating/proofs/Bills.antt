@@ -3,7 +3,7 @@
 -- lie in the buffer and are summed, and those to come will fill up the rest. Assumes nothing.
 use mathlib.Core.Path.{_≡_, refl, sym, ap, ap₂, _∙_, subst}
 use mathlib.Core.List.{List, [], _∷_, map}
-use Prim.Native.Nat.{ℕ, _+_, _-_, _*_, _/_, _^_, _≤_, _<_}
+use Prim.Native.Nat.{ℕ, _+_, _-_, _*_, _/_, _%_, _^_, _≤_, _<_}
 use native.Mathlib.Nat.{mul-le-mul-right, div-le-of-le-mul}
 use native.Mathlib.Omega.{arith}
 use lib.ListN.{length, getD, take, drop, length-map, drop-of-length-le}
@@ -81,6 +81,7 @@ billSlots t limiteds = slots 32 (map (billFor t) limiteds)
 -- of n bills, i are put and summed, and the next goes to the place p
 pub record Billing (t : BillTerms) (limiteds : List ℕ) (n : ℕ) (old : List ℕ) (i p billed : ℕ) (present : List ℕ) : Type 0 where
   pub within : i ≤ n
+  pub whole : p % 8 ≡ 0
   pub billed-most : billed ≤ 4294967296 * i
   pub sums : Adding (billFor t) limiteds n i billed
   pub puts : Putting old 0 (billSlots t (take n limiteds)) present p (billSlots t (drop i (take n limiteds)))
@@ -102,6 +103,7 @@ module _ {t : BillTerms} {n : ℕ} (limiteds old : List ℕ) (b : BillsBounds n 
   pub billing-starts : Billing t limiteds n old 0 0 0 old
   billing-starts = record {
     within = omega arith;
+    whole = refl;
     billed-most = omega arith;
     sums = adding-starts (billFor t) limiteds n;
     puts =
@@ -123,6 +125,7 @@ module _ {t : BillTerms} {n : ℕ} (limiteds old : List ℕ) (b : BillsBounds n 
       → Billing t limiteds n old (i + 1) q (billed + v) after
   billing-more {i} {p} {q} {billed} {v} {present} {after} w h e put = record {
     within = omega arith;
+    whole = omega (arith, w .whole, put .0);
     billed-most = omega (arith, w .billed-most, e, bill-lt b (getD limiteds i 0));
     sums = adding-more (w .sums) h few e;
     puts = putting-more (next-put w h) (put .0, subst (λ (x : ℕ). Put present p 32 x after) e (put .1));

@@ -58,7 +58,7 @@ fn put_bills(limiteds: [u32; 255], n: u32, terms: BillTerms, out: &mut [u8]) -> 
             terms.amount,
             ratable,
         );
-        place = place.put(out, 32, bill);
+        place = place.put_bytes(out, bill);
         billed += bill as u64;
         i += 1;
     }

@@ -60,14 +60,16 @@ bill-is c =
     c .bill-of .ensures
     ∙ ap (λ (k : ℕ). billRounding (t .tax * (t .amount + t .risks * t .conversion * k)) (10000000 * t .risks)) (ratable-is (c .before))
 
-put-requires : tie.Need-put-requires Inv-loop μ-loop
-put-requires c κs =
+put-bytes-requires : tie.Need-put-bytes-requires Inv-loop μ-loop
+put-bytes-requires c κs =
     let b = c .before in
     let l = b .before .before .before in
     let e = l .before .before in
     let n : length (e .args .t1) ≡ 255 = search needs in
-    subst (λ (v : ℕ). Room (l .loop .out) (l .loop .place .at) 32 v) (sym (bill-is b))
-    (room (next-put (e .args .t1) (e .args .out .now) (e .pre) n (l .loop .inv .0) (b .before .before .loop-test .taken) .space) (omega arith))
+    let space = next-put (e .args .t1) (e .args .out .now) (e .pre) n (l .loop .inv .0) (b .before .before .loop-test .taken) .space in (
+      subst (λ (v : ℕ). Room (l .loop .out) (l .loop .place .at) 32 v) (sym (bill-is b)) (room space (omega arith)),
+      l .loop .inv .0 .whole,
+    )
 
 cast-billed : tie.Need-cast-billed Inv-loop μ-loop
 cast-billed c = search needs
@@ -88,7 +90,7 @@ loop-again c =
     let e = l .before .before in
     let n : length (e .args .t1) ≡ 255 = search needs in (
       billing-more (e .args .t1) (e .args .out .now) (e .pre) n (l .loop .inv .0) (b .before .before .loop-test .taken) (bill-is b)
-          (c .before .before .put .ensures),
+          (c .before .before .put-bytes .ensures),
       λ i. omega (arith, c .slice-known2 .given i),
     )
 
@@ -117,7 +119,7 @@ put-bills-spec =
     array-read-ratable-of
     ratable-of-requires
     bill-of-requires
-    put-requires
+    put-bytes-requires
     cast-billed
     add-billed
     add-i
