@@ -1,7 +1,7 @@
 // Rate: the balanced basic premium, the excess loss charge and the bill of each risk of a file's group.
 ghost use mathlib.Core.Path.{_≡_};
 ghost use mathlib.Core.List.{map};
-ghost use Prim.Native.Nat.{_*_, _≤_};
+ghost use Prim.Native.Nat.{_+_, _*_, _^_, _≤_, _<_};
 ghost use lib.ListN.{length, take};
 ghost use Rattle.plan.specs.Arithmetic.{sumOf};
 ghost use Rattle.plan.specs.Field.{slots};
@@ -9,7 +9,6 @@ ghost use Rattle.plan.specs.File.{bytesOf};
 ghost use Rattle.plan.specs.Calls.{filled};
 ghost use Rattle.rating.specs.Rates.{billFor, BillsBounds, RateSays, Demanded};
 use crate::gates::open_rating;
-use crate::steps::amount_of;
 use crate::steps::bill_of;
 use crate::steps::ratable_of;
 use bits::BitPlace;
@@ -37,6 +36,14 @@ pub struct BillTerms {
     pub amount: u64,
     pub minimum: u32,
     pub maximum: u32,
+}
+
+// M + Q, not rounded: what all risks' bills share.
+fn amount_of(basic: u64, excess: u64) -> u64
+    requires { ⌜ basic + excess < 2 ^ 64 ⌝ }
+    ensures { λ r. ⌜ r ≡ basic + excess ⌝ }
+{
+    basic + excess
 }
 
 // Puts the bill of each of the first n limited losses into a buffer with room, 32 bits each from its start on; their sum.

@@ -81,14 +81,6 @@ pub fn basic_of(n: u64, e: u64, c: u64, sl: u64, sx: u64, ss: u64) -> Basic
     }
 }
 
-// M + Q, not rounded: what all risks' bills share.
-pub fn amount_of(basic: u64, excess: u64) -> u64
-    requires { ⌜ basic + excess < 2 ^ 64 ⌝ }
-    ensures { λ r. ⌜ r ≡ basic + excess ⌝ }
-{
-    basic + excess
-}
-
 // Step 6: the bill of one risk, T × (M + Q + n × c × K) ÷ (10,000,000 × n) to the nearest dollar, with M + Q in one.
 pub fn bill_of(n: u64, c: u64, t: u64, mq: u64, k: u32) -> u32
     requires { ⌜ BillBounds n c t mq k ⌝ }
