@@ -3,7 +3,7 @@
 //! A slice is handed over as a pointer and a count; Rust's borrows keep the parts that a call
 //! writes from overlapping.
 
-use crate::second;
+use crate::second_rater;
 
 /// The header values in file order, loss limit to minimum mark.
 #[repr(C)]
@@ -76,8 +76,8 @@ impl Group {
     }
 }
 
-impl From<second::Header> for Header {
-    fn from(header: second::Header) -> Header {
+impl From<second_rater::Header> for Header {
+    fn from(header: second_rater::Header) -> Header {
         Header {
             loss_limit: header.loss_limit,
             standard_premium: header.standard_premium,

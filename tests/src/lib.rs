@@ -1,18 +1,18 @@
 //! What is tested beside the proofs: the exported calls from outside, held to a second rater.
 //!
 //! - `calls`: the four exported calls of target/staticlib/libretro_c.a.
-//! - `second`: the second rater, written from document 01 alone.
+//! - `second_rater`: the second rater, written from document 01 alone.
 //! - `straightforward`: a rater for Rate alone, the benchmark's baseline.
-//! - `samples` and `groups`: known groups, generated groups and damaged files.
-//! - `guard` and `comparison`: memory between unreadable pages, and the calls held to the second
+//! - `samples` and `generator`: known groups, generated groups and damaged files.
+//! - `guard` and `held_calls`: memory between unreadable pages, and the calls held to the second
 //!   rater in it.
 
 pub mod calls;
-pub mod comparison;
-pub mod groups;
+pub mod generator;
 pub mod guard;
+pub mod held_calls;
 pub mod samples;
-pub mod second;
+pub mod second_rater;
 pub mod straightforward;
 
 use std::path::{Path, PathBuf};

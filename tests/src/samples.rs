@@ -1,6 +1,6 @@
 //! The groups of document 01 and other known groups.
 
-use crate::second::{self, Header};
+use crate::second_rater::{self, Header};
 
 /// A buffer's length that is enough for every call.
 pub const AMPLE: usize = 1 << 20;
@@ -23,7 +23,7 @@ impl Sample {
 
     /// The group file. The group must have passed the questions of Write.
     pub fn file(&self) -> Vec<u8> {
-        second::write(&self.header, &self.counts(), &self.claims(), AMPLE).unwrap()
+        second_rater::write(&self.header, &self.counts(), &self.claims(), AMPLE).unwrap()
     }
 }
 

@@ -6,13 +6,13 @@
 //!     RETRO_FILES=5000000 RETRO_SEED=7 cargo test --offline --release --test compare -- generated_files
 
 use retro_tests::calls::{self, raw, Group};
-use retro_tests::comparison::{Call, Comparison, Counts};
-use retro_tests::groups::{set, Random, RISKS, STANDARD_PREMIUM};
+use retro_tests::generator::{set, Random, RISKS, STANDARD_PREMIUM};
 use retro_tests::guard::Sparse;
+use retro_tests::held_calls::{Call, Counts, HeldCalls};
 use retro_tests::samples::{
     crossed_marks, four_risks, largest, one_claim_of_one, ten_risks, two_risks_of_ten, Sample,
 };
-use retro_tests::second::{self, Header};
+use retro_tests::second_rater::{self, Header};
 use std::io::{self, Write};
 use std::sync::atomic::{AtomicU64, Ordering};
 use std::time::Instant;
@@ -75,44 +75,44 @@ fn compare_in_threads(batches: u64, seed: u64) -> Counts {
 
 /// Takes batches until there are none left.
 fn compare_batches(next: &AtomicU64, batches: u64, seed: u64) -> Counts {
-    let mut comparison = Comparison::new();
+    let mut held_calls = HeldCalls::new();
     loop {
         let batch = next.fetch_add(1, Ordering::Relaxed);
         if batch >= batches {
-            return comparison.given;
+            return held_calls.given;
         }
         let mut random = Random::new(Random::new(seed ^ batch.rotate_left(32)).word());
         for _ in 0..BATCH {
             let file = random.file();
-            compare_file(&mut comparison, &mut random, &file);
-            compare_values(&mut comparison, &mut random);
+            compare_file(&mut held_calls, &mut random, &file);
+            compare_values(&mut held_calls, &mut random);
         }
     }
 }
 
 /// Rate, Table and Read of a file, and Write of what Read gives.
-fn compare_file(comparison: &mut Comparison, random: &mut Random, file: &[u8]) {
+fn compare_file(held_calls: &mut HeldCalls, random: &mut Random, file: &[u8]) {
     let (risks, claims) = sizes(file);
     let room = around(random, 4 * risks);
-    comparison.rate(file, room);
+    held_calls.rate(file, room);
     let entry_ratio = match random.between(0, 7) {
         0 => random.one_of(&[0, 1, 99, 100, 101, 599, 600]),
         1 => random.one_of(&[601, 602, 1_000, 65_536, 65_636, 1 << 31, u32::MAX]),
         _ => random.between(0, 600),
     };
-    comparison.table(file, entry_ratio);
+    held_calls.table(file, entry_ratio);
     let counts_room = around(random, risks);
     let claims_room = around(random, claims);
-    if comparison.read(file, counts_room, claims_room) == 0 {
-        comparison.write_back(file);
+    if held_calls.read(file, counts_room, claims_room) == 0 {
+        held_calls.write_back(file);
     }
 }
 
 /// Write of values that may be sound or not.
-fn compare_values(comparison: &mut Comparison, random: &mut Random) {
+fn compare_values(held_calls: &mut HeldCalls, random: &mut Random) {
     let values = random.values();
     let room = around(random, values.length());
-    comparison.write(&values.header, &values.counts, &values.claims, room);
+    held_calls.write(&values.header, &values.counts, &values.claims, room);
 }
 
 /// The number of risks and of claims that a file has by its bytes, whatever the questions say to
@@ -165,19 +165,19 @@ fn known() -> Vec<Sample> {
 }
 
 /// Rate, Table and Read of a file with room enough. Gives Read's answer.
-fn all_calls(comparison: &mut Comparison, file: &[u8]) -> u32 {
-    comparison.rate(file, 4 * second::MOST_RISKS);
-    comparison.table(file, 100);
-    comparison.read(file, second::MOST_RISKS, 1_000)
+fn all_calls(held_calls: &mut HeldCalls, file: &[u8]) -> u32 {
+    held_calls.rate(file, 4 * second_rater::MOST_RISKS);
+    held_calls.table(file, 100);
+    held_calls.read(file, second_rater::MOST_RISKS, 1_000)
 }
 
 #[test]
 fn each_prefix() {
-    let mut comparison = Comparison::new();
+    let mut held_calls = HeldCalls::new();
     for sample in known() {
         let file = sample.file();
         for len in 0..file.len() {
-            let answer = all_calls(&mut comparison, &file[..len]);
+            let answer = all_calls(&mut held_calls, &file[..len]);
             assert_eq!(answer, if len < 16 { 1 } else { 8 });
         }
     }
@@ -187,19 +187,19 @@ fn each_prefix() {
         .chain((40..file.len()).step_by(997))
         .chain(file.len() - 20..file.len())
     {
-        let answer = all_calls(&mut comparison, &file[..len]);
+        let answer = all_calls(&mut held_calls, &file[..len]);
         assert_eq!(answer, if len < 16 { 1 } else { 8 });
     }
 }
 
 #[test]
 fn each_bit() {
-    let mut comparison = Comparison::new();
+    let mut held_calls = HeldCalls::new();
     for sample in known() {
         let mut file = sample.file();
         for bit in 0..8 * file.len() {
             file[bit / 8] ^= 0x80 >> (bit % 8);
-            all_calls(&mut comparison, &file);
+            all_calls(&mut held_calls, &file);
             file[bit / 8] ^= 0x80 >> (bit % 8);
         }
     }
@@ -207,13 +207,13 @@ fn each_bit() {
 
 #[test]
 fn bytes_added() {
-    let mut comparison = Comparison::new();
+    let mut held_calls = HeldCalls::new();
     for sample in known() {
         for added in [0, 1, 0x80, 0xff] {
             let mut file = sample.file();
             for _ in 0..40 {
                 file.push(added);
-                assert_eq!(all_calls(&mut comparison, &file), 8);
+                assert_eq!(all_calls(&mut held_calls, &file), 8);
             }
         }
     }
@@ -221,11 +221,11 @@ fn bytes_added() {
 
 #[test]
 fn each_length_of_the_premiums() {
-    let mut comparison = Comparison::new();
+    let mut held_calls = HeldCalls::new();
     for n in [1, 2, 3, 4, 63, 64, 128, 254, 255] {
         let file = one_claim_of_one(n).file();
         for room in 0..=4 * n + 9 {
-            let answer = comparison.rate(&file, room);
+            let answer = held_calls.rate(&file, room);
             assert_eq!(answer, if room < 4 * n { 13 } else { 0 });
         }
     }
@@ -233,11 +233,11 @@ fn each_length_of_the_premiums() {
 
 #[test]
 fn each_length_of_counts_and_claims() {
-    let mut comparison = Comparison::new();
+    let mut held_calls = HeldCalls::new();
     let file = four_risks().file();
     for counts_room in 0..=7 {
         for claims_room in 0..=9 {
-            let answer = comparison.read(&file, counts_room, claims_room);
+            let answer = held_calls.read(&file, counts_room, claims_room);
             let enough = counts_room >= 4 && claims_room >= 6;
             assert_eq!(answer, if enough { 0 } else { 13 });
         }
@@ -245,7 +245,7 @@ fn each_length_of_counts_and_claims() {
     let file = largest().file();
     for counts_room in 253..=257 {
         for claims_room in 16_063..=16_067 {
-            let answer = comparison.read(&file, counts_room, claims_room);
+            let answer = held_calls.read(&file, counts_room, claims_room);
             let enough = counts_room >= 255 && claims_room >= 16_065;
             assert_eq!(answer, if enough { 0 } else { 13 });
         }
@@ -254,12 +254,12 @@ fn each_length_of_counts_and_claims() {
 
 #[test]
 fn each_length_of_the_written_file() {
-    let mut comparison = Comparison::new();
+    let mut held_calls = HeldCalls::new();
     for sample in known() {
         let (counts, claims) = (sample.counts(), sample.claims());
         let length = sample.file().len();
         for room in 0..=length + 9 {
-            let answer = comparison.write(&sample.header, &counts, &claims, room);
+            let answer = held_calls.write(&sample.header, &counts, &claims, room);
             assert_eq!(answer, if room < length { 13 } else { 0 });
         }
     }
@@ -267,11 +267,11 @@ fn each_length_of_the_written_file() {
 
 #[test]
 fn each_entry_ratio() {
-    let mut comparison = Comparison::new();
+    let mut held_calls = HeldCalls::new();
     for sample in [four_risks(), ten_risks(), one_claim_of_one(3)] {
         let file = sample.file();
         for entry_ratio in 0..=1_300 {
-            let answer = comparison.table(&file, entry_ratio);
+            let answer = held_calls.table(&file, entry_ratio);
             assert_eq!(answer, if entry_ratio > 600 { 14 } else { 0 });
         }
     }
@@ -295,7 +295,7 @@ fn with_value(header: &Header, place: usize, value: u32) -> Header {
 
 #[test]
 fn write_of_each_header_value() {
-    let mut comparison = Comparison::new();
+    let mut held_calls = HeldCalls::new();
     let sample = four_risks();
     let (counts, claims) = (sample.counts(), sample.claims());
     for place in 0..8 {
@@ -307,34 +307,34 @@ fn write_of_each_header_value() {
                 u32::MAX - (1 << power),
             ] {
                 let header = with_value(&sample.header, place, value);
-                comparison.write(&header, &counts, &claims, 34);
-                comparison.write(&header, &counts, &claims, 33);
+                held_calls.write(&header, &counts, &claims, 34);
+                held_calls.write(&header, &counts, &claims, 33);
             }
         }
         for value in [
             999, 1_000, 2_000, 2_001, 6_000, 6_001, 9_999, 10_000, 20_000, 20_001,
         ] {
             let header = with_value(&sample.header, place, value);
-            comparison.write(&header, &counts, &claims, 34);
+            held_calls.write(&header, &counts, &claims, 34);
         }
     }
     for answer in [0, 3, 4, 5, 6, 13, 15] {
-        assert!(comparison.given.of(Call::Write, answer) > 0, "{answer}");
+        assert!(held_calls.given.of(Call::Write, answer) > 0, "{answer}");
     }
 }
 
 #[test]
 fn write_of_numbers_that_wrap() {
     // Counts and claims so many that their number in 8 or 16 bits is a sound one.
-    let mut comparison = Comparison::new();
+    let mut held_calls = HeldCalls::new();
     let header = four_risks().header;
     for more in [256, 512, 65_536] {
         let mut counts = vec![0; 4 + more];
-        assert_eq!(comparison.write(&header, &counts, &[], 34), 15);
+        assert_eq!(held_calls.write(&header, &counts, &[], 34), 15);
         counts.truncate(4);
         counts[0] = 2;
         assert_eq!(
-            comparison.write(&header, &counts, &vec![7; 2 + more], 34),
+            held_calls.write(&header, &counts, &vec![7; 2 + more], 34),
             15
         );
     }
@@ -346,29 +346,29 @@ fn write_of_numbers_that_wrap() {
         [66, 0, 0, 0],
         [2, 192, 0, 64],
     ] {
-        assert_eq!(comparison.write(&header, &counts, &[7, 7], 34), 15);
+        assert_eq!(held_calls.write(&header, &counts, &[7, 7], 34), 15);
     }
     // 255 risks of 255 claims each: 65,025 claims
     let counts = [255; 255];
     assert_eq!(
-        comparison.write(&header, &counts, &vec![1; 65_025], 1 << 17),
+        held_calls.write(&header, &counts, &vec![1; 65_025], 1 << 17),
         15
     );
 }
 
 #[test]
 fn write_of_each_claim_and_count() {
-    let mut comparison = Comparison::new();
+    let mut held_calls = HeldCalls::new();
     let header = four_risks().header;
     for power in 0..32 {
         for claim in [(1 << power) - 1, 1 << power, (1 << power) + 1] {
-            let answer = comparison.write(&header, &[1, 1], &[5, claim], 23);
+            let answer = held_calls.write(&header, &[1, 1], &[5, claim], 23);
             assert_eq!(answer, if claim < 1 << 20 { 0 } else { 15 });
         }
     }
     for count in 0..=255u8 {
         let claims = vec![9; usize::from(count)];
-        let answer = comparison.write(&header, &[count], &claims, 200);
+        let answer = held_calls.write(&header, &[count], &claims, 200);
         assert_eq!(answer, if count < 64 { 0 } else { 15 });
     }
 }
@@ -391,7 +391,7 @@ fn null_where_empty(file: &[u8], counts_room: usize, claims_room: usize) {
             &mut billed,
         )
     };
-    assert_eq!(Some(rated), second::rate(file, 0).err());
+    assert_eq!(Some(rated), second_rater::rate(file, 0).err());
     assert_eq!((risks, basic, excess, billed), (1, 2, 3, 4));
 
     if file.is_empty() {
@@ -414,7 +414,7 @@ fn null_where_empty(file: &[u8], counts_room: usize, claims_room: usize) {
             claims_room,
         )
     };
-    match second::read(file, counts_room, claims_room) {
+    match second_rater::read(file, counts_room, claims_room) {
         Err(question) => {
             assert_eq!(given, Group::refused(question));
             assert!(counts.iter().all(|&count| count == 7));
@@ -460,7 +460,7 @@ fn null_pointers_where_the_count_is_0() {
     // Risks without claims are read into no claims.
     let mut sample = one_claim_of_one(3);
     sample.risks = vec![vec![]; 3];
-    assert!(second::read(&sample.file(), 3, 0).is_ok());
+    assert!(second_rater::read(&sample.file(), 3, 0).is_ok());
     null_where_empty(&sample.file(), 3, 0);
 }
 
@@ -492,7 +492,7 @@ fn write_with_null_pointers_where_the_count_is_0() {
             )
         };
         let mut expected = vec![0xee; room];
-        match second::write(&header, counts, claims, room) {
+        match second_rater::write(&header, counts, claims, room) {
             Err(question) => assert_eq!((answer, length), (question, 77)),
             Ok(bytes) => {
                 assert_eq!((answer, length), (0, bytes.len()));

@@ -1,8 +1,8 @@
 //! The generator reaches the corners that the comparison is about, each many times.
 
-use retro_tests::groups::{bits, Random};
+use retro_tests::generator::{bits, Random};
 use retro_tests::samples::{Sample, AMPLE};
-use retro_tests::second;
+use retro_tests::second_rater;
 use std::collections::BTreeMap;
 
 /// The corners at which a group lies.
@@ -54,7 +54,7 @@ fn corners(sample: &Sample) -> Vec<&'static str> {
     at("minimum mark 6.000", header.minimum_mark == 6_000);
     at("equal marks", header.maximum_mark == header.minimum_mark);
     at("no fill bits", bits(n, claims.len()).is_multiple_of(8));
-    match second::rate(&sample.file(), AMPLE) {
+    match second_rater::rate(&sample.file(), AMPLE) {
         Err(10) => at("refused 10", true),
         Err(11) => at("refused 11", true),
         Err(12) => at("refused 12", true),

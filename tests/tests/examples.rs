@@ -1,7 +1,7 @@
 //! The example files are what their generator writes, and their expected lines are what the second
 //! rater says.
 
-use retro_tests::{examples, second};
+use retro_tests::{examples, second_rater};
 use std::collections::BTreeMap;
 use std::path::Path;
 use std::process::Command;
@@ -48,7 +48,7 @@ fn examples_are_what_the_generator_writes() {
 fn there_is_an_example_for_each_question_that_a_file_alone_can_fail() {
     for question in 1..=12 {
         let file = fs::read(examples().join(format!("refused-{question:02}.group"))).unwrap();
-        assert_eq!(second::rate(&file, 1_020), Err(question));
+        assert_eq!(second_rater::rate(&file, 1_020), Err(question));
         let expected = fs::read(examples().join(format!("refused-{question:02}.expected")));
         assert_eq!(
             expected.unwrap(),
@@ -61,7 +61,7 @@ fn there_is_an_example_for_each_question_that_a_file_alone_can_fail() {
 fn rated_examples_are_of_their_kind() {
     let read = |name: &str| {
         let file = fs::read(examples().join(name).with_extension("group")).unwrap();
-        second::read(&file, 255, 16_065).unwrap()
+        second_rater::read(&file, 255, 16_065).unwrap()
     };
     assert_eq!(read("four-risks").counts, [0, 2, 1, 3]);
     assert_eq!(read("entry-ratio").header.mark_kind, 1);

@@ -3,7 +3,7 @@
 //! says so.
 
 use retro_tests::calls::{self, Group, Header};
-use retro_tests::comparison::Comparison;
+use retro_tests::held_calls::HeldCalls;
 use retro_tests::samples::{
     crossed_marks, four_risks, largest, one_claim_of_one, ten_risks, two_risks_of_ten, Sample,
 };
@@ -265,13 +265,13 @@ fn fifteen_output_bytes_give_13() {
 
 #[test]
 fn each_bit_of_the_three_risk_file_as_the_second_rater_says() {
-    let mut comparison = Comparison::new();
+    let mut held_calls = HeldCalls::new();
     let mut file = write(&one_claim_of_one(3));
     for bit in 0..8 * file.len() {
         file[bit / 8] ^= 0x80 >> (bit % 8);
-        comparison.rate(&file, 1_020);
-        comparison.table(&file, 100);
-        comparison.read(&file, 255, 1_000);
+        held_calls.rate(&file, 1_020);
+        held_calls.table(&file, 100);
+        held_calls.read(&file, 255, 1_000);
         file[bit / 8] ^= 0x80 >> (bit % 8);
     }
 }

@@ -1,6 +1,6 @@
 //! The program target/bin/retro, run on the example files and on inputs of any length.
 
-use retro_tests::{examples, repository, second};
+use retro_tests::{examples, repository, second_rater};
 use std::fs::{self, File};
 use std::io::Write;
 use std::path::{Path, PathBuf};
@@ -41,9 +41,9 @@ fn printed(bytes: &[u8], name: &str) -> String {
 
 /// What must be printed for these bytes.
 fn expected(bytes: &[u8]) -> String {
-    match second::rate(bytes, 4 * second::MOST_RISKS) {
-        Ok(rated) => second::print_rated(&rated),
-        Err(question) => second::print_refused(question),
+    match second_rater::rate(bytes, 4 * second_rater::MOST_RISKS) {
+        Ok(rated) => second_rater::print_rated(&rated),
+        Err(question) => second_rater::print_refused(question),
     }
 }
 
@@ -76,9 +76,9 @@ fn empty_input() {
 #[test]
 fn inputs_longer_than_the_largest_file() {
     let mut file = example("largest.group");
-    assert_eq!(file.len(), second::LARGEST_FILE);
+    assert_eq!(file.len(), second_rater::LARGEST_FILE);
     for added in [0, 1, 0xff] {
-        file.truncate(second::LARGEST_FILE);
+        file.truncate(second_rater::LARGEST_FILE);
         file.push(added);
         assert_eq!(printed(&file, "one-more"), "refused 8\n");
     }

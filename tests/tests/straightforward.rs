@@ -1,16 +1,16 @@
 //! The benchmark's baseline gives what the second rater gives, so that the times are of the same
 //! work.
 
-use retro_tests::groups::Random;
+use retro_tests::generator::Random;
 use retro_tests::samples::largest;
-use retro_tests::{second, straightforward};
+use retro_tests::{second_rater, straightforward};
 
 /// Holds the straightforward rater to the second rater on one file. Gives the answer.
 fn compare(file: &[u8], room: usize) -> u32 {
     let mut premiums = vec![0xee; room];
     let given = straightforward::rate(file, &mut premiums);
     let mut expected = vec![0xee; room];
-    match second::rate(file, room) {
+    match second_rater::rate(file, room) {
         Err(question) => {
             assert_eq!(given, Err(question));
             assert_eq!(premiums, expected);

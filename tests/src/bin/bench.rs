@@ -6,9 +6,9 @@
 //! same buffers, which are not cleared between runs. The runs of the calls take turns. A run is as
 //! many calls as take about a millisecond, and its time is divided by their number.
 
-use retro_tests::groups::Random;
+use retro_tests::generator::Random;
 use retro_tests::samples::Sample;
-use retro_tests::second::{self, Header, LARGEST_FILE, MOST_CLAIMS_PER_RISK, MOST_RISKS};
+use retro_tests::second_rater::{self, Header, LARGEST_FILE, MOST_CLAIMS_PER_RISK, MOST_RISKS};
 use retro_tests::{calls, straightforward};
 use std::hint::black_box;
 use std::time::Instant;
@@ -96,7 +96,7 @@ impl Desk {
                 black_box(rated).is_ok()
             }
             Measured::SecondRater => {
-                let rated = second::rate(black_box(&self.largest), self.premiums.len());
+                let rated = second_rater::rate(black_box(&self.largest), self.premiums.len());
                 black_box(rated).is_ok()
             }
             Measured::Table => {

@@ -5,11 +5,11 @@
 //! which asks the second rater.
 
 use retro_tests::calls;
-use retro_tests::groups::{
+use retro_tests::generator::{
     set, Random, CONVERSION, EDITION, HEADER, MAXIMUM_MARK, RISKS, STANDARD_PREMIUM, TAX,
 };
 use retro_tests::samples::{crossed_marks, four_risks, one_claim_of_one, two_risks_of_ten, Sample};
-use retro_tests::second::{Header, LARGEST_FILE};
+use retro_tests::second_rater::{Header, LARGEST_FILE};
 use std::path::PathBuf;
 use std::{env, fs, io};
 

@@ -3,7 +3,7 @@
 //!
 //! The lines are the second rater's; the library takes no part.
 
-use retro_tests::second::{self, MOST_RISKS};
+use retro_tests::second_rater::{self, MOST_RISKS};
 use std::path::PathBuf;
 use std::{env, fs, io};
 
@@ -17,9 +17,9 @@ fn main() -> io::Result<()> {
             .extension()
             .is_some_and(|extension| extension == "group")
         {
-            let lines = match second::rate(&fs::read(&path)?, 4 * MOST_RISKS) {
-                Ok(rated) => second::print_rated(&rated),
-                Err(question) => second::print_refused(question),
+            let lines = match second_rater::rate(&fs::read(&path)?, 4 * MOST_RISKS) {
+                Ok(rated) => second_rater::print_rated(&rated),
+                Err(question) => second_rater::print_refused(question),
             };
             fs::write(path.with_extension("expected"), lines)?;
         }

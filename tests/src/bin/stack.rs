@@ -8,7 +8,7 @@
 //! file.
 
 use retro_tests::guard::{Guarded, Place};
-use retro_tests::{calls, examples, repository, second};
+use retro_tests::{calls, examples, repository, second_rater};
 use std::ffi::{c_int, c_void};
 use std::fs::{self, File};
 use std::process::Command;
@@ -144,7 +144,7 @@ fn least_limit(name: &str) -> u32 {
 
 fn main() {
     let file = fs::read(examples().join("largest.group")).expect("the largest example");
-    let group = second::read(&file, 255, 16_065).expect("the largest example is sound");
+    let group = second_rater::read(&file, 255, 16_065).expect("the largest example is sound");
     let mut task = Task {
         call: no_call,
         file,
@@ -152,7 +152,7 @@ fn main() {
         claims: group.claims,
         header: group.header.into(),
         premiums: vec![0; 1_020],
-        written: vec![0; second::LARGEST_FILE],
+        written: vec![0; second_rater::LARGEST_FILE],
         answer: 0,
         place: 0,
     };

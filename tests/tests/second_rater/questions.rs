@@ -1,12 +1,12 @@
 //! The questions: each one alone, the order between them, and files of any
 //! length.
 
-use retro_tests::groups::{
+use retro_tests::generator::{
     set, Field, Random, CONVERSION, EDITION, LOSS_LIMIT, MAXIMUM_MARK, MINIMUM_MARK, RISKS, SPARE,
     STANDARD_PREMIUM, TAX,
 };
 use retro_tests::samples::{four_risks, one_claim_of_one, two_risks_of_ten, Sample, AMPLE};
-use retro_tests::second::{rate, read, table, write, Header};
+use retro_tests::second_rater::{rate, read, table, write, Header};
 
 /// The same number from the three calls on a file.
 fn all_refuse(file: &[u8], k: u32) {

@@ -1,12 +1,12 @@
 //! The worked figures: the four-risk group, the proved cases, the four ways to
 //! rate wrongly, and a further group of ten risks.
 
-use retro_tests::groups::Random;
+use retro_tests::generator::Random;
 use retro_tests::samples::{
     crossed_marks, four_risks, largest, one_claim_of_one, ten_risks, two_risks_of_ten, Sample,
     AMPLE,
 };
-use retro_tests::second::{print_rated, rate, table, Header, Line};
+use retro_tests::second_rater::{print_rated, rate, table, Header, Line};
 
 fn billed(sample: &Sample) -> Vec<u128> {
     rate(&sample.file(), AMPLE).unwrap().premiums

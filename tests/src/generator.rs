@@ -2,7 +2,7 @@
 //! than chance has them.
 
 use crate::samples::{Sample, AMPLE};
-use crate::second::{self, Header};
+use crate::second_rater::{self, Header};
 
 /// The largest claim, loss limit and expense provision.
 const LARGEST: u32 = (1 << 20) - 1;
@@ -264,7 +264,7 @@ impl Random {
     fn bring_basic_near_0(&mut self, sample: &mut Sample) {
         let given = sample.header.expense;
         sample.header.expense = LARGEST;
-        let Ok(rated) = second::rate(&sample.file(), AMPLE) else {
+        let Ok(rated) = second_rater::rate(&sample.file(), AMPLE) else {
             sample.header.expense = given;
             return;
         };

@@ -1,12 +1,12 @@
 //! The balance statement, compared over whole numbers with every premium
 //! times 10,000,000 × n.
 
-use retro_tests::groups::Random;
+use retro_tests::generator::Random;
 use retro_tests::samples::{
     crossed_marks, four_risks, largest, one_claim_of_one, ten_risks, two_risks_of_ten, Sample,
     AMPLE,
 };
-use retro_tests::second::{rate, Rated};
+use retro_tests::second_rater::{rate, Rated};
 
 /// SL and each K of a group, from its values by steps 1 to 3.
 fn losses(sample: &Sample) -> (i128, Vec<i128>) {

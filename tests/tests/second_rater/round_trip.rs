@@ -1,8 +1,8 @@
 //! Read of what Write gives, and Write of what Read gives.
 
-use retro_tests::groups::Random;
+use retro_tests::generator::Random;
 use retro_tests::samples::{four_risks, largest, one_claim_of_one, ten_risks, Sample, AMPLE};
-use retro_tests::second::{read, write, Group};
+use retro_tests::second_rater::{read, write, Group};
 
 fn there_and_back(sample: &Sample) {
     let (counts, claims) = (sample.counts(), sample.claims());

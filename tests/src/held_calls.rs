@@ -7,7 +7,7 @@
 
 use crate::calls::{self, Group, Header};
 use crate::guard::{Guarded, PLACES};
-use crate::second;
+use crate::second_rater;
 use std::fmt;
 
 // What the lent numbers hold before a call.
@@ -111,7 +111,7 @@ impl fmt::Display for Counts {
 }
 
 /// Memory for the calls, and how often they gave each answer.
-pub struct Comparison {
+pub struct HeldCalls {
     file: Guarded<u8>,
     premiums: Guarded<u8>,
     counts: Guarded<u8>,
@@ -123,16 +123,16 @@ pub struct Comparison {
     pub given: Counts,
 }
 
-impl Default for Comparison {
-    fn default() -> Comparison {
-        Comparison::new()
+impl Default for HeldCalls {
+    fn default() -> HeldCalls {
+        HeldCalls::new()
     }
 }
 
-impl Comparison {
+impl HeldCalls {
     /// Memory for files and buffers somewhat larger than the largest group needs.
-    pub fn new() -> Comparison {
-        Comparison {
+    pub fn new() -> HeldCalls {
+        HeldCalls {
             file: Guarded::new(1 << 17),
             premiums: Guarded::new(1 << 13),
             counts: Guarded::new(1 << 17),
@@ -149,7 +149,7 @@ impl Comparison {
     pub fn rate(&mut self, file: &[u8], room: usize) -> u32 {
         let mut premiums: Vec<u8> = (0..room).map(preset_byte).collect();
         let mut numbers = (RISKS, BASIC, EXCESS, BILLED);
-        let answer = match second::rate(file, room) {
+        let answer = match second_rater::rate(file, room) {
             Err(question) => question,
             Ok(rated) => {
                 for (four, &premium) in premiums.chunks_exact_mut(4).zip(&rated.premiums) {
@@ -187,7 +187,7 @@ impl Comparison {
 
     /// Table of a file at an entry ratio.
     pub fn table(&mut self, file: &[u8], entry_ratio: u32) -> u32 {
-        let (answer, ratios) = match second::table(file, entry_ratio) {
+        let (answer, ratios) = match second_rater::table(file, entry_ratio) {
             Err(question) => (question, (CHARGE, SAVINGS)),
             Ok((charge, savings)) => (0, (number(charge), number(savings))),
         };
@@ -210,7 +210,7 @@ impl Comparison {
     pub fn read(&mut self, file: &[u8], counts_room: usize, claims_room: usize) -> u32 {
         let mut counts: Vec<u8> = (0..counts_room).map(preset_byte).collect();
         let mut claims: Vec<u32> = (0..claims_room).map(preset_claim).collect();
-        let answer = match second::read(file, counts_room, claims_room) {
+        let answer = match second_rater::read(file, counts_room, claims_room) {
             Err(question) => Group::refused(question),
             Ok(group) => {
                 counts[..group.counts.len()].copy_from_slice(&group.counts);
@@ -241,13 +241,13 @@ impl Comparison {
     /// Write of values into a buffer of so many bytes.
     pub fn write(
         &mut self,
-        header: &second::Header,
+        header: &second_rater::Header,
         counts: &[u8],
         claims: &[u32],
         room: usize,
     ) -> u32 {
         let mut file: Vec<u8> = (0..room).map(preset_byte).collect();
-        let (answer, length) = match second::write(header, counts, claims, room) {
+        let (answer, length) = match second_rater::write(header, counts, claims, room) {
             Err(question) => (question, LENGTH),
             Ok(bytes) => {
                 file[..bytes.len()].copy_from_slice(&bytes);
@@ -280,8 +280,8 @@ impl Comparison {
     pub fn write_back(&mut self, file: &[u8]) {
         let place = PLACES[0];
         let lent = self.file.copy(file, place);
-        let counts = self.counts.slice(second::MOST_RISKS, place);
-        let claims_room = second::MOST_RISKS * second::MOST_CLAIMS_PER_RISK;
+        let counts = self.counts.slice(second_rater::MOST_RISKS, place);
+        let claims_room = second_rater::MOST_RISKS * second_rater::MOST_CLAIMS_PER_RISK;
         let claims = self.claims.slice(claims_room, place);
         let group = calls::read(lent, counts, claims);
         assert_eq!(group.refused, 0, "{}", Bytes(file));

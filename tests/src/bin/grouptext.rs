@@ -1,13 +1,13 @@
 //! The second rater as a program.
 //!
-//! - `second rate [FILE]` prints what `retro` prints.
-//! - `second table R [FILE]` prints the charge and the savings at entry ratio R
-//!   in hundredths.
-//! - `second read [FILE]` prints the eight header values, then one line per
+//! - `grouptext rate [FILE]` prints what `retro` prints.
+//! - `grouptext table R [FILE]` prints the charge and the savings at entry ratio
+//!   R in hundredths.
+//! - `grouptext read [FILE]` prints the eight header values, then one line per
 //!   risk: its count and its claims.
-//! - `second write [FILE]` takes a text (eight header values in file order on
-//!   the first line, then one line of claims per risk, empty for a risk without
-//!   claims) and writes the group file's bytes.
+//! - `grouptext write [FILE]` takes a text (eight header values in file order
+//!   on the first line, then one line of claims per risk, empty for a risk
+//!   without claims) and writes the group file's bytes.
 //!
 //! Without FILE the input is standard input. A refused file prints `refused K`
 //! on standard output with exit status 0; a refused `write` prints it on
@@ -15,13 +15,15 @@
 
 #![forbid(unsafe_code)]
 
-use retro_tests::second::{self, Group, Header, LARGEST_FILE, MOST_CLAIMS_PER_RISK, MOST_RISKS};
+use retro_tests::second_rater::{
+    self, Group, Header, LARGEST_FILE, MOST_CLAIMS_PER_RISK, MOST_RISKS,
+};
 use std::env;
 use std::fs;
 use std::io::{self, Read, Write};
 use std::process::ExitCode;
 
-const USAGE: &str = "usage: second rate [FILE] | table R [FILE] | read [FILE] | write [FILE]";
+const USAGE: &str = "usage: grouptext rate [FILE] | table R [FILE] | read [FILE] | write [FILE]";
 
 /// Why the program stops without its usual answer.
 enum Stop {
@@ -39,7 +41,7 @@ fn main() -> ExitCode {
             Err(_) => ExitCode::from(2),
         },
         Err(Stop::Refused(k)) => {
-            eprint!("{}", second::print_refused(k));
+            eprint!("{}", second_rater::print_refused(k));
             ExitCode::from(1)
         }
         Err(Stop::Usage(text)) => {
@@ -78,26 +80,26 @@ fn input(path: Option<&str>) -> Result<Vec<u8>, Stop> {
 }
 
 fn rate(file: &[u8]) -> Result<Vec<u8>, Stop> {
-    let text = match second::rate(file, 4 * MOST_RISKS) {
-        Ok(rated) => second::print_rated(&rated),
-        Err(k) => second::print_refused(k),
+    let text = match second_rater::rate(file, 4 * MOST_RISKS) {
+        Ok(rated) => second_rater::print_rated(&rated),
+        Err(k) => second_rater::print_refused(k),
     };
     Ok(text.into_bytes())
 }
 
 fn table(r: &str, path: Option<&str>) -> Result<Vec<u8>, Stop> {
     let r: u32 = number(r)?;
-    let text = match second::table(&input(path)?, r) {
+    let text = match second_rater::table(&input(path)?, r) {
         Ok((charge, savings)) => format!("{charge} {savings}\n"),
-        Err(k) => second::print_refused(k),
+        Err(k) => second_rater::print_refused(k),
     };
     Ok(text.into_bytes())
 }
 
 fn read(file: &[u8]) -> Result<Vec<u8>, Stop> {
-    let text = match second::read(file, MOST_RISKS, MOST_RISKS * MOST_CLAIMS_PER_RISK) {
+    let text = match second_rater::read(file, MOST_RISKS, MOST_RISKS * MOST_CLAIMS_PER_RISK) {
         Ok(group) => print_group(&group),
-        Err(k) => second::print_refused(k),
+        Err(k) => second_rater::print_refused(k),
     };
     Ok(text.into_bytes())
 }
@@ -142,7 +144,7 @@ fn write(text: &[u8]) -> Result<Vec<u8>, Stop> {
         counts.push(u8::try_from(risk.len()).unwrap_or(u8::MAX));
         claims.extend(risk);
     }
-    second::write(&header, &counts, &claims, LARGEST_FILE).map_err(Stop::Refused)
+    second_rater::write(&header, &counts, &claims, LARGEST_FILE).map_err(Stop::Refused)
 }
 
 /// The eight header values of the description's first line.

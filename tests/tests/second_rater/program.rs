@@ -1,4 +1,4 @@
-//! The program `second`.
+//! The program `grouptext`.
 
 use retro_tests::samples::{four_risks, one_claim_of_one};
 use std::io::Write;
@@ -11,7 +11,7 @@ const FOUR_RISKS: &str = "5000 10000 2000 1100 10500 0 900 200\n\
                           5000 6000 2000\n";
 
 fn run(arguments: &[&str], input: &[u8]) -> Output {
-    let mut child = Command::new(env!("CARGO_BIN_EXE_second"))
+    let mut child = Command::new(env!("CARGO_BIN_EXE_grouptext"))
         .args(arguments)
         .stdin(Stdio::piped())
         .stdout(Stdio::piped())
@@ -108,7 +108,7 @@ fn write_refuses_on_standard_error() {
 
 #[test]
 fn path_takes_the_place_of_standard_input() {
-    let path = std::env::temp_dir().join(format!("second-{}.group", std::process::id()));
+    let path = std::env::temp_dir().join(format!("grouptext-{}.group", std::process::id()));
     std::fs::write(&path, four_risks().file()).unwrap();
     let name = path.to_str().unwrap();
     assert_eq!(output(&["table", "100", name], &[]), "321 321\n");
