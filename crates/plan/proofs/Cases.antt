@@ -5,14 +5,16 @@ use mathlib.Core.List.{List, [], _∷_, map}
 use Prim.Native.Nat.{ℕ, _*_}
 use lib.IntN.{ℤ, pos}
 use Rattle.plan.specs.Arithmetic.{nearest}
-use Rattle.plan.specs.Field.{bit, number, field}
+use Rattle.plan.specs.Field.{bit, number, field, bytesOf}
 use Rattle.plan.specs.Header.{Header, headerOf}
-use Rattle.plan.specs.File.{bytesOf, fileOf}
-use Rattle.plan.specs.Losses.{Losses, lossesIn}
+use Rattle.plan.specs.Claim.{claimAt, pastClaim, slotsOfClaim, claimFits}
+use Rattle.plan.specs.Risk.{countAt, firstClaim}
+use Rattle.plan.specs.File.{fileOf}
+use Rattle.plan.specs.Losses.{Losses, limitedOf, lossesIn}
 use Rattle.plan.specs.Marks.{LG, LH}
 use Rattle.plan.specs.Ratable.{SX, SS, ratable}
 use Rattle.plan.specs.Basic.{basicPremium, excessCharge}
-use Rattle.plan.specs.Premium.{billRounding, unrounded, billedPremium}
+use Rattle.plan.specs.Premium.{billRounding, billWith}
 use Rattle.plan.specs.Demand3.{taxedExpensesAndLosses}
 use Rattle.plan.specs.Table.{chargeSum, savingsSum, charge, savings}
 use Rattle.plan.specs.Calls.{Answer, refused, given, Rated, ratedOf, rate, Tabled, table, Group, read, write}
@@ -136,7 +138,7 @@ FourCase =
     × (rate fourFile 15 ≡ refused 13)
 
 fourCase : FourCase
-unfolding bytesOf number bit field LG LH SX SS ratable basicPremium excessCharge nearest billRounding unrounded billedPremium ratedOf rate taxedExpensesAndLosses read write
+unfolding bytesOf number bit field claimAt pastClaim slotsOfClaim claimFits countAt firstClaim limitedOf LG LH SX SS ratable basicPremium excessCharge nearest billRounding billWith ratedOf rate taxedExpensesAndLosses read write
 fourCase = (refl, refl, refl, refl, refl, refl, refl, refl, refl)
 
 -- 'Table on it: r 0 gives 1000 and 0; r 100 gives 321 and 321; r 200 gives 71 and 1071; r 300 gives 0 and 2000.' And r 25, where
@@ -150,7 +152,7 @@ TableCase =
     × (table fourFile 25 ≡ tables 813 63)
 
 tableCase : TableCase
-unfolding number bit field nearest chargeSum savingsSum charge savings table
+unfolding number bit field claimAt pastClaim countAt firstClaim limitedOf nearest chargeSum savingsSum charge savings table
 tableCase = (refl, refl, refl, refl, refl)
 
 -- the other groups
@@ -182,7 +184,7 @@ OtherCases =
     × (lg limitsFile ≡ 30000)
 
 otherCases : OtherCases
-unfolding bytesOf number bit field LG LH SX SS ratable basicPremium excessCharge nearest billRounding unrounded billedPremium ratedOf rate taxedExpensesAndLosses
+unfolding bytesOf number bit field claimAt pastClaim slotsOfClaim claimFits countAt firstClaim limitedOf LG LH SX SS ratable basicPremium excessCharge nearest billRounding billWith ratedOf rate taxedExpensesAndLosses
 otherCases =
     (refl, refl, refl, refl, refl, refl, refl, refl, refl, refl, refl, refl, refl, refl, refl, refl, refl, refl, refl)
 

@@ -1,18 +1,25 @@
--- Laws of the questions. The first No of two lists one behind the other is that of the first, else that of the second; where
--- all are passed, the answer looked up by any number that is asked is Yes. So a gate's Yes gives the facts that its questions
--- ask for, and those facts give its Yes. Assumes nothing.
+-- Laws of the questions. The first No of a gate and a list that goes on from it is the gate's, else that of the rest; where all
+-- are passed, the answer looked up by any number that is asked is Yes. So a gate's Yes gives the facts that its questions ask
+-- for, and those facts give its Yes: each question has a line of its own in either direction. Assumes nothing.
 use mathlib.Core.Path.{_≡_, refl, _∙_, sym, ap}
 use mathlib.Core.Bool.{Bool, true, false, cond, _&&_, _||_}
-use mathlib.Core.List.{List, [], _∷_, _++_, map}
-use Prim.Native.Nat.{ℕ, _≤_, _<_}
-use lib.Dec.{leb, eqb}
+use mathlib.Core.List.{List, [], _∷_, _++_}
+use Prim.Native.Nat.{ℕ, _≤_}
+use lib.Dec.{eqb}
+use lib.IntN.{ℤ, pos, negsuc}
+use lib.Signed.{nonNeg}
 use lib.ListN.{length}
 use borrow.Author.Tests.{leb-true, le-leb, eqb-true, eq-eqb}
 use Rattle.plan.specs.Header.{Header, headerOf, riskCount, valueOf, editionField, spareField}
-use Rattle.plan.specs.File.{bytesFor, endOf, fillOf}
-use Rattle.plan.specs.Questions.{Question, ask, Verdict, passed, failed, firstNo, headerQuestions, fileQuestions}
-use Rattle.plan.specs.Questions.{lossQuestions, ratingQuestions, question10, question11, question12}
+use Rattle.plan.specs.Field.{bytesFor}
+use Rattle.plan.specs.File.{endOf, fillOf}
+use Rattle.plan.specs.Losses.{Losses, SA, lossesIn}
+use Rattle.plan.specs.Marks.{LG, LH}
+use Rattle.plan.specs.Basic.{basicPremium}
+use Rattle.plan.specs.Questions.{Question, ask, Verdict, passed, failed, firstNo, orElse, question1, question2, question10}
+use Rattle.plan.specs.Questions.{headerQuestions, endQuestions, fileQuestions, balanceQuestions, lossQuestions, ratingQuestions}
 use Rattle.plan.specs.Questions.{rateQuestions, tableQuestions, readQuestions, writeQuestions}
+use Rattle.plan.specs.Bounds.{HeaderSound}
 use Rattle.plan.specs.Calls.{Answer, refused, given, answer}
 use Rattle.plan.proofs.Tests.{both, and-yes}
 
@@ -31,32 +38,32 @@ asked-in-order : (s : List ℕ) (room r countsRoom claimsRoom : ℕ) (h : Header
 unfolding numbers
 asked-in-order s room r countsRoom claimsRoom h counts claims = (refl, refl, refl, refl)
 
--- ---- two lists, one behind the other
+-- ---- one question
 
-abbrev pub orElse : Verdict → Verdict → Verdict
-orElse passed v = v
-orElse (failed k) v = failed k
+-- a Yes goes on
+pub goes-on : (k : ℕ) {b : Bool} (qs : List Question) → b ≡ true → firstNo (ask k b ∷ qs) ≡ firstNo qs
+goes-on k qs e = ap (λ (x : Bool). firstNo (ask k x ∷ qs)) e
 
-pub first-append : (a b : List Question) → firstNo (a ++ b) ≡ orElse (firstNo a) (firstNo b)
-first-append [] b = refl
-first-append (ask k true ∷ a) b = first-append a b
-first-append (ask k false ∷ a) b = refl
+-- a No is the result
+pub stops : (k : ℕ) {b : Bool} (qs : List Question) → b ≡ false → firstNo (ask k b ∷ qs) ≡ failed k
+stops k qs e = ap (λ (x : Bool). firstNo (ask k x ∷ qs)) e
 
--- where all are passed, those of either list are
-pub passed-both : (a b : List Question) → firstNo (a ++ b) ≡ passed → (firstNo a ≡ passed) × (firstNo b ≡ passed)
-passed-both [] b e = (refl, e)
-passed-both (ask k true ∷ a) b e = passed-both a b e
-passed-both (ask k false ∷ a) b e = (e, cc)
+-- ---- a gate, and a list that goes on from it
 
-pub passed-append : (a b : List Question) → firstNo a ≡ passed → firstNo b ≡ passed → firstNo (a ++ b) ≡ passed
-passed-append a b p q = first-append a b ∙ ap (λ (v : Verdict). orElse v (firstNo b)) p ∙ q
+-- the gate's No, else the first No of the rest, whatever the rest is
+pub after-gate : (gate rest : List Question) {v : Verdict} → firstNo gate ≡ v → firstNo (gate ++ rest) ≡ orElse v (firstNo rest)
+after-gate gate rest e = joined gate ∙ ap (λ (v : Verdict). orElse v (firstNo rest)) e
+  where
+    joined : (qs : List Question) → firstNo (qs ++ rest) ≡ orElse (firstNo qs) (firstNo rest)
+    joined [] = refl
+    joined (ask k true ∷ qs) = joined qs
+    joined (ask k false ∷ qs) = refl
 
--- the gates: what passes 1 to 12 passes 1 to 10, and what passes those passes 1 to 9
-pub rating-loss : (s : List ℕ) → firstNo (ratingQuestions s) ≡ passed → firstNo (lossQuestions s) ≡ passed
-rating-loss s e = passed-both (lossQuestions s) (question11 s ∷ question12 s ∷ []) e .0
-
-pub loss-file : (s : List ℕ) → firstNo (lossQuestions s) ≡ passed → firstNo (fileQuestions s) ≡ passed
-loss-file s e = passed-both (fileQuestions s) (question10 s ∷ []) e .0
+-- what passes all passes the gate and the rest
+pub passed-both : (gate rest : List Question) → firstNo (gate ++ rest) ≡ passed → (firstNo gate ≡ passed) × (firstNo rest ≡ passed)
+passed-both [] rest e = (refl, e)
+passed-both (ask k true ∷ gate) rest e = passed-both gate rest e
+passed-both (ask k false ∷ gate) rest e = (e, cc)
 
 -- ---- an answer by its number
 
@@ -85,67 +92,32 @@ pub given-passed : {A : Type 0} (v : Verdict) (a b : A) → answer v a ≡ given
 given-passed passed a b e = (refl, cc)
 given-passed (failed k) a b e = (cc, cc)
 
-pub passed-given : {A : Type 0} {v : Verdict} (a : A) → v ≡ passed → answer v a ≡ given a
-passed-given a e = ap (λ (v : Verdict). answer v a) e
+pub refused-failed : {A : Type 0} (v : Verdict) (a : A) {k : ℕ} → answer v a ≡ refused k → v ≡ failed k
+refused-failed passed a e = cc
+refused-failed (failed j) a e = cc
 
--- a call whose list is a gate and one last question: the gate refuses, or the last question does, or the call gives
+-- what a verdict answers
+pub answered : {A : Type 0} {v w : Verdict} (a : A) → v ≡ w → answer v a ≡ answer w a
+answered a e = ap (λ (v : Verdict). answer v a) e
 
-pub gate-refuses : {A : Type 0} (gate rest : List Question) {k : ℕ} (a : A) → firstNo gate ≡ failed k
-    → answer (firstNo (gate ++ rest)) a ≡ refused k
-gate-refuses gate rest a e =
-    ap (λ (v : Verdict). answer v a) (first-append gate rest ∙ ap (λ (v : Verdict). orElse v (firstNo rest)) e)
-
-pub last-refuses : {A : Type 0} (gate : List Question) (k : ℕ) {b : Bool} (a : A) → firstNo gate ≡ passed → b ≡ false
-    → answer (firstNo (gate ++ ask k b ∷ [])) a ≡ refused k
-last-refuses gate k {b} a e last =
-    ap (λ (v : Verdict). answer v a) (first-append gate (ask k b ∷ []) ∙ ap (λ (v : Verdict). orElse v (firstNo (ask k b ∷ []))) e)
-    ∙ ap (λ (x : Bool). answer (firstNo (ask k x ∷ [])) a) last
-
-pub last-gives : {A : Type 0} (gate : List Question) (k : ℕ) {b : Bool} (a : A) → firstNo gate ≡ passed → b ≡ true
-    → answer (firstNo (gate ++ ask k b ∷ [])) a ≡ given a
-last-gives gate k {b} a e last =
-    ap (λ (v : Verdict). answer v a) (first-append gate (ask k b ∷ []) ∙ ap (λ (v : Verdict). orElse v (firstNo (ask k b ∷ []))) e)
-    ∙ ap (λ (x : Bool). answer (firstNo (ask k x ∷ [])) a) last
-
--- ---- questions 3 to 7 as facts
-
-pub record HeaderSound (h : Header) (n : ℕ) : Type 0 where
-  pub premium : 1 ≤ h .standardPremium
-  pub conversion : 1000 ≤ h .conversion
-  pub conversion-most : h .conversion ≤ 2000
-  pub tax : 10000 ≤ h .tax
-  pub tax-most : h .tax ≤ 20000
-  pub maximum : h .maximumMark ≤ 6000
-  pub minimum : h .minimumMark ≤ 6000
-  pub risks : 1 ≤ n
-
--- from the answers to 3, 4, 5, 6 and 7, in whatever list they were looked up
-header-facts : (h : Header) (n : ℕ)
-    → leb 1 (h .standardPremium) ≡ true
-    → (leb 1000 (h .conversion) && leb (h .conversion) 2000) ≡ true
-    → (leb 10000 (h .tax) && leb (h .tax) 20000) ≡ true
-    → (leb (h .maximumMark) 6000 && leb (h .minimumMark) 6000) ≡ true
-    → leb 1 n ≡ true
-    → HeaderSound h n
-header-facts h n three four five six seven =
-    let c = both _ _ four in
-    let t = both _ _ five in
-    let m = both _ _ six in
-    record {
-      premium = leb-true _ _ three;
-      conversion = leb-true _ _ (c .0);
-      conversion-most = leb-true _ _ (c .1);
-      tax = leb-true _ _ (t .0);
-      tax-most = leb-true _ _ (t .1);
-      maximum = leb-true _ _ (m .0);
-      minimum = leb-true _ _ (m .1);
-      risks = leb-true _ _ seven;
-    }
+-- ---- the facts that passed questions give, by number
 
 pub header-sound : (h : Header) (n : ℕ) → firstNo (headerQuestions h n) ≡ passed → HeaderSound h n
 header-sound h n e =
     let qs = headerQuestions h n in
-    header-facts h n (yes-to 3 qs refl e) (yes-to 4 qs refl e) (yes-to 5 qs refl e) (yes-to 6 qs refl e) (yes-to 7 qs refl e)
+    let four = both _ _ (yes-to 4 qs refl e) in
+    let five = both _ _ (yes-to 5 qs refl e) in
+    let six = both _ _ (yes-to 6 qs refl e) in
+    record {
+      premium = leb-true _ _ (yes-to 3 qs refl e);
+      conversion = leb-true _ _ (four .0);
+      conversion-most = leb-true _ _ (four .1);
+      tax = leb-true _ _ (five .0);
+      tax-most = leb-true _ _ (five .1);
+      maximum = leb-true _ _ (six .0);
+      minimum = leb-true _ _ (six .1);
+      risks = leb-true _ _ (yes-to 7 qs refl e);
+    }
 
 pub header-passes : (h : Header) (n : ℕ) → HeaderSound h n → firstNo (headerQuestions h n) ≡ passed
 header-passes h n f =
@@ -160,45 +132,75 @@ header-passes h n f =
       le-leb _ _ (f .risks),
     )
 
--- ---- questions 1 to 9 as facts
-
+-- of a file that passes 1 to 9
 pub record FileSound (s : List ℕ) : Type 0 where
+  -- 1
   pub long : 16 ≤ length s
+  -- 2
   pub edition-is : valueOf s editionField ≡ 1
   pub spare-is : valueOf s spareField ≡ 0
+  -- 3 to 7
   pub header : HeaderSound (headerOf s) (riskCount s)
+  -- 8
   pub ends : length s ≡ bytesFor (endOf s)
+  -- 9
   pub fill : fillOf s ≡ 0
+
+-- what the first two lists of 1 to 9 are
+abbrev firstQuestions : List ℕ → List Question
+firstQuestions s = question1 s ∷ question2 s ∷ []
 
 pub file-sound : (s : List ℕ) → firstNo (fileQuestions s) ≡ passed → FileSound s
 file-sound s e =
     let qs = fileQuestions s in
     let two = both _ _ (yes-to 2 qs refl e) in
+    let later = passed-both (firstQuestions s) (headerQuestions (headerOf s) (riskCount s) ++ endQuestions s) e .1 in
     record {
       long = leb-true _ _ (yes-to 1 qs refl e);
       edition-is = eqb-true _ _ (two .0);
       spare-is = eqb-true _ _ (two .1);
-      header =
-          header-facts (headerOf s) (riskCount s)
-          (yes-to 3 qs refl e) (yes-to 4 qs refl e) (yes-to 5 qs refl e) (yes-to 6 qs refl e) (yes-to 7 qs refl e);
+      header = header-sound (headerOf s) (riskCount s) (passed-both (headerQuestions (headerOf s) (riskCount s)) (endQuestions s) later .0);
       ends = eqb-true _ _ (yes-to 8 qs refl e);
       fill = eqb-true _ _ (yes-to 9 qs refl e);
     }
 
 pub file-passes : (s : List ℕ) → FileSound s → firstNo (fileQuestions s) ≡ passed
 file-passes s f =
-    simp (
-      le-leb _ _ (f .long),
-      eq-eqb _ _ (f .edition-is),
-      eq-eqb _ _ (f .spare-is),
-      le-leb _ _ (f .header .premium),
-      le-leb _ _ (f .header .conversion),
-      le-leb _ _ (f .header .conversion-most),
-      le-leb _ _ (f .header .tax),
-      le-leb _ _ (f .header .tax-most),
-      le-leb _ _ (f .header .maximum),
-      le-leb _ _ (f .header .minimum),
-      le-leb _ _ (f .header .risks),
-      eq-eqb _ _ (f .ends),
-      eq-eqb _ _ (f .fill),
-    )
+    simp (le-leb _ _ (f .long), eq-eqb _ _ (f .edition-is), eq-eqb _ _ (f .spare-is))
+    (after-gate (headerQuestions (headerOf s) (riskCount s)) (endQuestions s) (header-passes (headerOf s) (riskCount s) (f .header))
+    ∙ simp (eq-eqb _ _ (f .ends), eq-eqb _ _ (f .fill)))
+
+-- of a file that passes 1 to 10
+pub record LossSound (s : List ℕ) : Type 0 where
+  pub file : FileSound s
+  -- 10
+  pub some : 1 ≤ SA (lossesIn s)
+
+pub loss-sound : (s : List ℕ) → firstNo (lossQuestions s) ≡ passed → LossSound s
+loss-sound s e = record {
+  file = file-sound s (passed-both (fileQuestions s) (question10 (lossesIn s) ∷ []) e .0);
+  some = leb-true _ _ (yes-to 10 (lossQuestions s) refl e);
+}
+
+-- of a group that passes 11 and 12
+pub record BalanceSound (h : Header) (rs : List Losses) : Type 0 where
+  -- 11
+  pub ordered : LH h rs ≤ LG h rs
+  -- 12
+  pub not-negative : nonNeg (basicPremium h rs) ≡ true
+
+pub balance-sound : (h : Header) (rs : List Losses) → firstNo (balanceQuestions h rs) ≡ passed → BalanceSound h rs
+balance-sound h rs e = record {
+  ordered = leb-true _ _ (yes-to 11 (balanceQuestions h rs) refl e);
+  not-negative = yes-to 12 (balanceQuestions h rs) refl e;
+}
+
+-- of a file that passes 1 to 12
+pub record RatingSound (s : List ℕ) : Type 0 where
+  pub losses : LossSound s
+  pub balance : BalanceSound (headerOf s) (lossesIn s)
+
+pub rating-sound : (s : List ℕ) → firstNo (ratingQuestions s) ≡ passed → RatingSound s
+rating-sound s e =
+    let p = passed-both (lossQuestions s) (balanceQuestions (headerOf s) (lossesIn s)) e in
+    record { losses = loss-sound s (p .0); balance = balance-sound (headerOf s) (lossesIn s) (p .1) }

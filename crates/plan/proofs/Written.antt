@@ -11,8 +11,8 @@ use native.Mathlib.Omega.{arith}
 use lib.ListN.{length, getD, replicate, length-append, length-replicate, List·getD-eq-default}
 use lib.Seq.{getD-append-add}
 use lib.Pow.{mod-pow-add}
-use Rattle.plan.specs.Field.{bit, number, field, fields, Slot, slot, slots, totalWidth, digits, bitsOf, bytesFrom}
-use Rattle.plan.specs.File.{bytesFor, bytesOf}
+use Rattle.plan.specs.Field.{bit, number, field, fields, Slot, slot, slots, totalWidth, digits, bitsOf, bytesFrom, bytesFor}
+use Rattle.plan.specs.Field.{bytesOf, Laid, Fitting}
 use Rattle.plan.proofs.Fields.{
   by-cases,
   Bytes,
@@ -28,16 +28,6 @@ use Rattle.plan.proofs.Fields.{
   bits-ext,
   bit-past,
 }
-
--- the fields lie in s from `at` on, one after another
-abbrev pub Laid : List ℕ → ℕ → List Slot → Type 0
-Laid s at [] = Unit {0}
-Laid s at (slot w v ∷ fs) = (field s at w ≡ v) × Laid s (at + w) fs
-
--- each field's value has no more bits than the field
-abbrev pub Fitting : List Slot → Type 0
-Fitting [] = Unit {0}
-Fitting (slot w v ∷ fs) = (v < 2 ^ w) × Fitting fs
 
 -- ---- lists of bits
 
@@ -253,6 +243,18 @@ pub laid-second : (s : List ℕ) (at : ℕ) (fs gs : List Slot) → Laid s at (f
 laid-second s at [] gs l = subst (λ (x : ℕ). Laid s x gs) (sym (add-zero at)) l
 laid-second s at (slot w v ∷ fs) gs l =
     subst (λ (x : ℕ). Laid s x gs) (add-assoc at w (totalWidth fs)) (laid-second s (at + w) fs gs (l .1))
+
+pub fitting-append : (fs gs : List Slot) → Fitting fs → Fitting gs → Fitting (fs ++ gs)
+fitting-append [] gs f g = g
+fitting-append (slot w v ∷ fs) gs f g = (f .0, fitting-append fs gs (f .1) g)
+
+pub fitting-first : (fs gs : List Slot) → Fitting (fs ++ gs) → Fitting fs
+fitting-first [] gs f = tt
+fitting-first (slot w v ∷ fs) gs f = (f .0, fitting-first fs gs (f .1))
+
+pub fitting-second : (fs gs : List Slot) → Fitting (fs ++ gs) → Fitting gs
+fitting-second [] gs f = f
+fitting-second (slot w v ∷ fs) gs f = fitting-second fs gs (f .1)
 
 -- rows of numbers
 pub width-slots : (w : ℕ) (vs : List ℕ) → totalWidth (slots w vs) ≡ length vs * w

@@ -6,9 +6,10 @@ use Prim.Native.Nat.{ℕ}
 use lib.IntN.{ℤ}
 use lib.ListN.{length, drop}
 use Rattle.plan.specs.Arithmetic.{sum}
-use Rattle.plan.specs.Field.{slots}
+use Rattle.plan.specs.Field.{slots, bytesOf}
 use Rattle.plan.specs.Header.{Header, headerOf}
-use Rattle.plan.specs.File.{bytesOf, fileOf, countsOf, risksOf, allClaims}
+use Rattle.plan.specs.Risk.{allClaims}
+use Rattle.plan.specs.File.{fileOf, countsOf, risksOf}
 use Rattle.plan.specs.Losses.{Losses, lossesIn}
 use Rattle.plan.specs.Basic.{basicPremium, excessCharge}
 use Rattle.plan.specs.Premium.{billedPremiums}

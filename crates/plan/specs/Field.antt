@@ -1,8 +1,11 @@
 -- 'Fields lie one after another, most significant bit first, without gaps. Each field is taken at the bit where the one
 -- before it ended, and taking it hands on the next place.' A place is the number of a bit, counted from 0 at the first.
+use mathlib.Core.Path.{_≡_}
+use mathlib.Core.Bool.{Bool, true, _&&_}
 use mathlib.Core.List.{List, [], _∷_, _++_}
-use Prim.Native.Nat.{ℕ, zero, suc, _+_, _-_, _*_, _/_, _%_, _^_}
-use lib.ListN.{getD}
+use Prim.Native.Nat.{ℕ, zero, suc, _+_, _-_, _*_, _/_, _%_, _^_, _<_}
+use lib.Dec.{ltb}
+use lib.ListN.{getD, replicate}
 
 -- ---- taken
 
@@ -54,3 +57,35 @@ bitsOf (slot w v ∷ fs) = digits w v ++ bitsOf fs
 abbrev pub bytesFrom : (ℕ → ℕ) → ℕ → ℕ → List ℕ
 bytesFrom b at zero = []
 bytesFrom b at (suc n) = number b at 8 ∷ bytesFrom b (at + 8) n
+
+-- how many bytes hold so many bits
+abbrev pub bytesFor : ℕ → ℕ
+bytesFor bits = (bits + 7) / 8
+
+-- fields as whole bytes: their bits, then zero bits that fill the last byte, eight to a byte
+-- (8 × bytes − bits cannot cut off: bytesFor rounds up)
+unfoldable pub bytesOf : List Slot → List ℕ
+bytesOf fs =
+    let bits : List ℕ = bitsOf fs ++ replicate (8 * bytesFor (totalWidth fs) - totalWidth fs) 0 in
+    bytesFrom (λ k. getD bits k 0) 0 (bytesFor (totalWidth fs))
+
+-- ---- of fields and bytes
+
+-- the fields lie in s from `at` on, one after another
+abbrev pub Laid : List ℕ → ℕ → List Slot → Type 0
+Laid s at [] = Unit {0}
+Laid s at (slot w v ∷ fs) = (field s at w ≡ v) × Laid s (at + w) fs
+
+-- each field's value has no more bits than the field
+abbrev pub Fitting : List Slot → Type 0
+Fitting [] = Unit {0}
+Fitting (slot w v ∷ fs) = (v < 2 ^ w) × Fitting fs
+
+-- whether a value fits so many bits
+abbrev pub fits : ℕ → ℕ → Bool
+fits w v = ltb v (2 ^ w)
+
+-- whether each value of a list does
+abbrev pub allFit : ℕ → List ℕ → Bool
+allFit w [] = true
+allFit w (v ∷ vs) = fits w v && allFit w vs

@@ -60,6 +60,10 @@ risksField = after minimumMarkField 8
 abbrev pub spareField : Extent
 spareField = after risksField 1
 
+-- 'The header has 128 bits': where its last field ends
+abbrev pub headerBits : ℕ
+headerBits = end spareField
+
 -- the value of a field of the header
 abbrev pub valueOf : List ℕ → Extent → ℕ
 valueOf s x = field s (x .at) (x .width)

@@ -1,8 +1,11 @@
 -- Document 01 as definitions, in its order. The laws about them are in ../proofs; there is no code in this crate.
 pub mod Arithmetic
+pub mod Sizes
 -- The group file
 pub mod Field
 pub mod Header
+pub mod Claim
+pub mod Risk
 pub mod File
 -- From claims to premiums: steps 1 to 6, and demand 3
 pub mod Losses
@@ -14,5 +17,6 @@ pub mod Demand3
 -- The calls
 pub mod Table
 pub mod Calls
--- Questions a file must pass
+-- Questions a file must pass, and what a Yes to them says
 pub mod Questions
+pub mod Bounds

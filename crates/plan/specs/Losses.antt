@@ -3,8 +3,8 @@
 use mathlib.Core.List.{List, map}
 use Prim.Native.Nat.{ℕ, zero, suc, min}
 use Rattle.plan.specs.Arithmetic.{sum, sumOf}
-use Rattle.plan.specs.Header.{headerOf}
-use Rattle.plan.specs.File.{risksOf}
+use Rattle.plan.specs.Header.{headerOf, headerBits, riskCount}
+use Rattle.plan.specs.Risk.{risksFrom}
 
 -- a risk's losses
 pub record Losses : Type 0 where
@@ -18,9 +18,17 @@ abbrev pub limitedTo : ℕ → ℕ → ℕ
 limitedTo zero claim = claim
 limitedTo (suc l) claim = min claim (suc l)
 
+-- L of a risk's claims, from its first on
+abbrev pub totalOf : List ℕ → ℕ
+totalOf claims = sum claims
+
+-- A of a risk's claims, from its first on
+unfoldable pub limitedOf : ℕ → List ℕ → ℕ
+limitedOf limit claims = sumOf (limitedTo limit) claims
+
 -- L and A of a risk's claims
 abbrev pub lossesOf : ℕ → List ℕ → Losses
-lossesOf limit claims = record { total = sum claims; limited = sumOf (limitedTo limit) claims }
+lossesOf limit claims = record { total = totalOf claims; limited = limitedOf limit claims }
 
 -- SL
 abbrev pub SL : List Losses → ℕ
@@ -30,6 +38,10 @@ SL rs = sumOf (λ r. r .total) rs
 abbrev pub SA : List Losses → ℕ
 SA rs = sumOf (λ r. r .limited) rs
 
+-- the losses of the first n risks of the file s from a place on
+abbrev pub lossesFrom : List ℕ → ℕ → ℕ → ℕ → List Losses
+lossesFrom s limit at n = map (lossesOf limit) (risksFrom s at n)
+
 -- the losses of each risk of a file
 abbrev pub lossesIn : List ℕ → List Losses
-lossesIn s = map (lossesOf (headerOf s .lossLimit)) (risksOf s)
+lossesIn s = lossesFrom s (headerOf s .lossLimit) headerBits (riskCount s)

@@ -5,9 +5,11 @@ use Prim.Native.Nat.{ℕ, _*_}
 use lib.IntN.{ℤ, pos, negsuc, _+ℤ_, _*ℤ_}
 use lib.ListN.{length}
 use Rattle.plan.specs.Arithmetic.{nearest}
+use Rattle.plan.specs.Sizes.{premiumScale}
 use Rattle.plan.specs.Header.{Header}
 use Rattle.plan.specs.Losses.{Losses}
-use Rattle.plan.specs.Ratable.{ratable}
+use Rattle.plan.specs.Marks.{LG, LH}
+use Rattle.plan.specs.Ratable.{clamp}
 use Rattle.plan.specs.Basic.{basicPremium, excessCharge}
 
 -- T × (M + Q + n × c × K): the unrounded premium times 10,000,000 × n, of n, c, T, M, Q and K
@@ -23,15 +25,49 @@ abbrev pub billOf : ℤ → ℕ → ℕ
 billOf (pos a) d = billRounding a d
 billOf (negsuc a) d = 0
 
-module _ (h : Header) (rs : List Losses) where
-  -- a risk's unrounded premium, times 10,000,000 × n
-  unfoldable pub unrounded : Losses → ℤ
-  unrounded r =
-      unroundedOf (length rs) (h .conversion) (h .tax) (basicPremium h rs) (excessCharge h rs) (ratable h rs r)
+-- what the premiums of a group share
+pub record Terms : Type 0 where
+  -- n
+  pub risks : ℕ
+  -- c
+  pub conversion : ℕ
+  -- T
+  pub tax : ℕ
+  -- M
+  pub basic : ℤ
+  -- Q
+  pub excess : ℕ
+  -- LH
+  pub minimum : ℕ
+  -- LG
+  pub maximum : ℕ
 
+-- the terms of a group
+abbrev pub termsOf : Header → List Losses → Terms
+termsOf h rs = record {
+  risks = length rs;
+  conversion = h .conversion;
+  tax = h .tax;
+  basic = basicPremium h rs;
+  excess = excessCharge h rs;
+  minimum = LH h rs;
+  maximum = LG h rs;
+}
+
+module _ (t : Terms) where
+  -- the unrounded premium, times 10,000,000 × n, of a risk whose A is a; its K is a between LH and LG
+  abbrev pub unroundedWith : ℕ → ℤ
+  unroundedWith a =
+      unroundedOf (t .risks) (t .conversion) (t .tax) (t .basic) (t .excess) (clamp (t .minimum) (t .maximum) a)
+
+  -- the bill of a risk whose A is a
+  unfoldable pub billWith : ℕ → ℕ
+  billWith a = billOf (unroundedWith a) (premiumScale * t .risks)
+
+module _ (h : Header) (rs : List Losses) where
   -- the bill of one risk
-  unfoldable pub billedPremium : Losses → ℕ
-  billedPremium r = billOf (unrounded r) (10000000 * length rs)
+  abbrev pub billedPremium : Losses → ℕ
+  billedPremium r = billWith (termsOf h rs) (r .limited)
 
   -- the bills of a group, in file order
   abbrev pub billedPremiums : List ℕ

@@ -1,17 +1,21 @@
 -- 'Asked in this order. The first No is the result, as that number and nothing else, and no lent byte or number changes. No
--- refusal has another cause.'
+-- refusal has another cause.' One definition a question; each call's list is made of their names.
 use mathlib.Core.Bool.{Bool, true, false, _&&_}
 use mathlib.Core.List.{List, [], _∷_, _++_}
-use Prim.Native.Nat.{ℕ, _*_, _^_}
-use lib.Dec.{leb, ltb, eqb}
+use Prim.Native.Nat.{ℕ, _*_}
+use lib.Dec.{leb, eqb}
 use lib.ListN.{length}
 use lib.Signed.{nonNeg}
 use Rattle.plan.specs.Arithmetic.{sum}
+use Rattle.plan.specs.Sizes.{mostMark, mostRatio}
+use Rattle.plan.specs.Field.{bytesFor, fits, allFit}
 use Rattle.plan.specs.Header.{Header, headerOf, riskCount, valueOf, editionField, spareField, lossLimitField}
 use Rattle.plan.specs.Header.{standardPremiumField, expenseField, conversionField, taxField, markKindField}
 use Rattle.plan.specs.Header.{maximumMarkField, minimumMarkField, risksField}
-use Rattle.plan.specs.File.{countWidth, claimWidth, bytesFor, countsOf, endOf, fillOf, fileLength}
-use Rattle.plan.specs.Losses.{SA, lossesIn}
+use Rattle.plan.specs.Claim.{claimsFit}
+use Rattle.plan.specs.Risk.{countWidth}
+use Rattle.plan.specs.File.{countsOf, endOf, fillOf, fileLength}
+use Rattle.plan.specs.Losses.{Losses, SA, lossesIn}
 use Rattle.plan.specs.Marks.{LG, LH}
 use Rattle.plan.specs.Basic.{basicPremium}
 
@@ -30,49 +34,68 @@ firstNo [] = passed
 firstNo (ask k true ∷ qs) = firstNo qs
 firstNo (ask k false ∷ qs) = failed k
 
--- ---- the questions, by number
+-- a verdict and what is asked after it: the first No of both
+abbrev pub orElse : Verdict → Verdict → Verdict
+orElse passed v = v
+orElse (failed k) v = failed k
 
--- 3 to 7, of the header values and n: 'Is P at least 1?' 'Is c from 1,000 to 2,000?' 'Is T from 10,000 to 20,000?' 'Are both
--- marks at most 6,000?' 'Is n at least 1?'
-abbrev pub headerQuestions : Header → ℕ → List Question
-headerQuestions h n =
-    ask 3 (leb 1 (h .standardPremium))
-    ∷ ask 4 (leb 1000 (h .conversion) && leb (h .conversion) 2000)
-    ∷ ask 5 (leb 10000 (h .tax) && leb (h .tax) 20000)
-    ∷ ask 6 (leb (h .maximumMark) 6000 && leb (h .minimumMark) 6000)
-    ∷ ask 7 (leb 1 n)
-    ∷ []
+-- ---- of the bytes of a file
 
--- 1 to 9, of a file: 'Has the file at least 16 bytes?' 'Is the edition 1 and the spare bit 0?' then 3 to 7, 'Does the file end
--- with the byte that holds the last claim or count?' 'Are its fill bits zero?'
-abbrev pub fileQuestions : List ℕ → List Question
-fileQuestions s =
-    ask 1 (leb 16 (length s))
-    ∷ ask 2 (eqb (valueOf s editionField) 1 && eqb (valueOf s spareField) 0)
-    ∷ headerQuestions (headerOf s) (riskCount s)
-    ++ ask 8 (eqb (length s) (bytesFor (endOf s)))
-    ∷ ask 9 (eqb (fillOf s) 0)
-    ∷ []
+-- 'Has the file at least 16 bytes?'
+abbrev pub question1 : List ℕ → Question
+question1 s = ask 1 (leb 16 (length s))
+
+-- 'Is the edition 1 and the spare bit 0?'
+abbrev pub question2 : List ℕ → Question
+question2 s = ask 2 (eqb (valueOf s editionField) 1 && eqb (valueOf s spareField) 0)
+
+-- ---- of the header values and n
+
+-- 'Is P at least 1?'
+abbrev pub question3 : Header → Question
+question3 h = ask 3 (leb 1 (h .standardPremium))
+
+-- 'Is c from 1,000 to 2,000?'
+abbrev pub question4 : Header → Question
+question4 h = ask 4 (leb 1000 (h .conversion) && leb (h .conversion) 2000)
+
+-- 'Is T from 10,000 to 20,000?'
+abbrev pub question5 : Header → Question
+question5 h = ask 5 (leb 10000 (h .tax) && leb (h .tax) 20000)
+
+-- 'Are both marks at most 6,000?'
+abbrev pub question6 : Header → Question
+question6 h = ask 6 (leb (h .maximumMark) mostMark && leb (h .minimumMark) mostMark)
+
+-- 'Is n at least 1?'
+abbrev pub question7 : ℕ → Question
+question7 n = ask 7 (leb 1 n)
+
+-- ---- of the bytes of a file, and where its last field ends
+
+-- 'Does the file end with the byte that holds the last claim or count?'
+abbrev pub question8 : List ℕ → Question
+question8 s = ask 8 (eqb (length s) (bytesFor (endOf s)))
+
+-- 'Are its fill bits zero?'
+abbrev pub question9 : List ℕ → Question
+question9 s = ask 9 (eqb (fillOf s) 0)
+
+-- ---- of the header and the losses
 
 -- 'Is SA at least 1?'
-abbrev pub question10 : List ℕ → Question
-question10 s = ask 10 (leb 1 (SA (lossesIn s)))
+abbrev pub question10 : List Losses → Question
+question10 rs = ask 10 (leb 1 (SA rs))
 
 -- 'Is LH at most LG?'
-abbrev pub question11 : List ℕ → Question
-question11 s = ask 11 (leb (LH (headerOf s) (lossesIn s)) (LG (headerOf s) (lossesIn s)))
+abbrev pub question11 : Header → List Losses → Question
+question11 h rs = ask 11 (leb (LH h rs) (LG h rs))
 
 -- 'Is M at least 0?'
-abbrev pub question12 : List ℕ → Question
-question12 s = ask 12 (nonNeg (basicPremium (headerOf s) (lossesIn s)))
+abbrev pub question12 : Header → List Losses → Question
+question12 h rs = ask 12 (nonNeg (basicPremium h rs))
 
--- 1 to 10
-abbrev pub lossQuestions : List ℕ → List Question
-lossQuestions s = fileQuestions s ++ question10 s ∷ []
-
--- 1 to 12
-abbrev pub ratingQuestions : List ℕ → List Question
-ratingQuestions s = lossQuestions s ++ question11 s ∷ question12 s ∷ []
+-- ---- of what is lent or given
 
 -- 'Is each lent buffer long enough?'
 abbrev pub question13 : Bool → Question
@@ -80,18 +103,9 @@ question13 enough = ask 13 enough
 
 -- 'Is r at most 600?'
 abbrev pub question14 : ℕ → Question
-question14 r = ask 14 (leb r 600)
+question14 r = ask 14 (leb r mostRatio)
 
--- a value fits so many bits
-abbrev pub fits : ℕ → ℕ → Bool
-fits w v = ltb v (2 ^ w)
-
--- each value of a list does
-abbrev pub allFit : ℕ → List ℕ → Bool
-allFit w [] = true
-allFit w (v ∷ vs) = fits w v && allFit w vs
-
--- the header values do
+-- whether the header values fit their widths
 abbrev pub headerFits : Header → Bool
 headerFits h =
     fits (lossLimitField .width) (h .lossLimit)
@@ -109,11 +123,37 @@ question15 h counts claims =
     ask 15
     (fits (risksField .width) (length counts)
     && allFit countWidth counts
-    && allFit claimWidth claims
+    && claimsFit claims
     && headerFits h
     && eqb (sum counts) (length claims))
 
--- ---- the questions of each call, in its order; `room` is a lent buffer's length
+-- ---- the gates: lists that calls have in common
+
+-- 3 to 7
+abbrev pub headerQuestions : Header → ℕ → List Question
+headerQuestions h n = question3 h ∷ question4 h ∷ question5 h ∷ question6 h ∷ question7 n ∷ []
+
+-- 8 and 9
+abbrev pub endQuestions : List ℕ → List Question
+endQuestions s = question8 s ∷ question9 s ∷ []
+
+-- 1 to 9
+abbrev pub fileQuestions : List ℕ → List Question
+fileQuestions s = question1 s ∷ question2 s ∷ (headerQuestions (headerOf s) (riskCount s) ++ endQuestions s)
+
+-- 11 and 12
+abbrev pub balanceQuestions : Header → List Losses → List Question
+balanceQuestions h rs = question11 h rs ∷ question12 h rs ∷ []
+
+-- 1 to 10
+abbrev pub lossQuestions : List ℕ → List Question
+lossQuestions s = fileQuestions s ++ question10 (lossesIn s) ∷ []
+
+-- 1 to 12
+abbrev pub ratingQuestions : List ℕ → List Question
+ratingQuestions s = lossQuestions s ++ balanceQuestions (headerOf s) (lossesIn s)
+
+-- ---- the questions of each call: a gate and its own last ones; `room` is a lent buffer's length
 
 -- 'For Rate, 4 × n bytes are enough.'
 abbrev pub rateEnough : List ℕ → ℕ → Bool
