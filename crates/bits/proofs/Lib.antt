@@ -1,6 +1,7 @@
--- Laws of taking and putting. Crates above cite those of Puts, as Rattle.bits.proofs.Puts.
+-- Laws of taking and putting, one field or a run of them. Crates above cite the public ones, as Rattle.bits.proofs.Runs.
+pub mod Places
 pub mod Puts
-mod Takes
+pub mod Runs
+pub mod WholeBytes
 mod OneByte
-mod Words
 mod Parts

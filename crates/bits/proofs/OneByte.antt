@@ -10,7 +10,7 @@ use lib.ListN.{length, getD, set, length-set}
 use lib.Seq.{getD-set-same, getD-set-other}
 use Rattle.plan.specs.Field.{bit, field}
 use Rattle.plan.proofs.Fields.{by-cases, field-part, field-bits, field-byte}
-use Rattle.bits.specs.Words.{Inserted}
+use Rattle.words.specs.Words.{Inserted}
 use Rattle.bits.specs.Put.{Put}
 
 -- w bits of byte i, after v others and before `rest` others

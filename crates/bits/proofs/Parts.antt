@@ -5,7 +5,7 @@ use Prim.Native.Nat.{ℕ, _+_, _-_, _*_, _/_, _%_, _^_, _≤_, _<_}
 use native.Mathlib.Nat.{div-eq-of-lt, div-one}
 use native.Mathlib.Omega.{arith}
 use Rattle.bits.specs.Put.{Put, InByte}
-use Rattle.bits.proofs.Words.{next-bits}
+use Rattle.words.proofs.Words.{next-bits}
 use Rattle.bits.proofs.Puts.{put-none, put-put}
 
 -- t has all bits of the value but the `left` lowest

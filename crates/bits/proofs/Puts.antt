@@ -15,11 +15,6 @@ pub put-before : {s t : List ℕ} {at w v : ℕ} → Put s at w v t
     → (from n : ℕ) → from + n ≤ at → field t from n ≡ field s from n
 put-before {s} {t} p from n h = field-same t s from n (λ k lo hi. p .before k (omega arith))
 
--- and a field after it
-pub put-after : {s t : List ℕ} {at w v : ℕ} → Put s at w v t
-    → (from n : ℕ) → at + w ≤ from → field t from n ≡ field s from n
-put-after {s} {t} p from n h = field-same t s from n (λ k lo hi. p .after k (omega arith))
-
 -- a put of no bits leaves all as it was
 pub put-none : (s : List ℕ) (at : ℕ) → Put s at 0 0 s
 put-none s at = record { same = refl; here = field-none s at; before = λ k h. refl; after = λ k h. refl }

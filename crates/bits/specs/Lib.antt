@@ -1,5 +1,4 @@
--- What taking and putting a field ask for and give.
+-- What taking and putting a field, and putting a run of fields, ask for and give.
 pub mod Take
 pub mod Put
--- Of the private functions
-pub mod Words
+pub mod Runs

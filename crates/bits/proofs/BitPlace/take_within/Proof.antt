@@ -4,7 +4,7 @@ use Prim.Native.Nat.{ℕ, _-_, _/_, _%_, _^_}
 use borrow.Author.Needs.{needs}
 use Rattle.plan.specs.Field.{field}
 use Rattle.plan.proofs.Fields.{field-below}
-use Rattle.bits.proofs.Takes.{field-in-word}
+use Rattle.words.proofs.Takes.{field-in-word}
 use Rattle.bits.proofs.BitPlace.take_within.Statement.{statement}
 use Rattle.bits.proofs.BitPlace.take_within.Tie as tie
 

@@ -3,9 +3,9 @@ use mathlib.Core.Path.{_≡_, sym, subst, subst₂}
 use Prim.Native.Nat.{ℕ, _^_, _<_}
 use native.Mathlib.Omega.{arith}
 use borrow.Author.Needs.{needs}
-use Rattle.bits.specs.Words.{Inserted}
-use Rattle.bits.proofs.insert.Statement.{statement}
-use Rattle.bits.proofs.insert.Tie as tie
+use Rattle.words.specs.Words.{Inserted}
+use Rattle.words.proofs.insert.Statement.{statement}
+use Rattle.words.proofs.insert.Tie as tie
 
 fits : {n part : ℕ} → n ≡ 8 → part < 2 ^ n → part < 256
 fits {n} {part} e h = subst (λ (k : ℕ). part < 2 ^ k) e h

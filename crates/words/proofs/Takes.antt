@@ -10,8 +10,8 @@ use lib.ListN.{length, getD, List·getD-eq-default}
 use lib.Pow.{pow-add, shl-lt, shr-shr}
 use lib.Bits.{bitOr, or-shifted}
 use Rattle.plan.specs.Field.{field}
-use Rattle.bits.specs.Words.{Joins}
-use Rattle.bits.proofs.Words.{joins}
+use Rattle.words.specs.Words.{Joins}
+use Rattle.words.proofs.Words.{joins}
 use Rattle.plan.proofs.Fields.{field-lt, field-split, field-part, field-at, field-byte}
 
 -- past the end a byte is 0

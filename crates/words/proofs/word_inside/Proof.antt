@@ -1,9 +1,9 @@
 -- The word is two halves. Assumes nothing.
 use mathlib.Core.Path.{_∙_}
 use borrow.Author.Needs.{needs}
-use Rattle.bits.proofs.Takes.{two-halves, halves-join}
-use Rattle.bits.proofs.word_inside.Statement.{statement}
-use Rattle.bits.proofs.word_inside.Tie as tie
+use Rattle.words.proofs.Takes.{two-halves, halves-join}
+use Rattle.words.proofs.word_inside.Statement.{statement}
+use Rattle.words.proofs.word_inside.Tie as tie
 
 half-inside-requires : tie.Need-half-inside-requires
 half-inside-requires c κs = search needs

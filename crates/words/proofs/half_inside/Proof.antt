@@ -1,8 +1,8 @@
 -- The half is four bytes, each at its place. Assumes nothing.
 use borrow.Author.Needs.{needs}
-use Rattle.bits.proofs.Takes.{four-bytes}
-use Rattle.bits.proofs.half_inside.Statement.{statement}
-use Rattle.bits.proofs.half_inside.Tie as tie
+use Rattle.words.proofs.Takes.{four-bytes}
+use Rattle.words.proofs.half_inside.Statement.{statement}
+use Rattle.words.proofs.half_inside.Tie as tie
 
 byte-requires : tie.Need-byte-requires
 byte-requires c κs = search needs

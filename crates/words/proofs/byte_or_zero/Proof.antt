@@ -3,9 +3,9 @@ use mathlib.Core.Path.{sym, ap, _∙_}
 use Prim.Native.Nat.{ℕ, _+_, _-_, _*_, _^_}
 use native.Mathlib.Nat.{zero-mul}
 use borrow.Author.Needs.{needs}
-use Rattle.bits.proofs.Takes.{byte-past}
-use Rattle.bits.proofs.byte_or_zero.Statement.{statement}
-use Rattle.bits.proofs.byte_or_zero.Tie as tie
+use Rattle.words.proofs.Takes.{byte-past}
+use Rattle.words.proofs.byte_or_zero.Statement.{statement}
+use Rattle.words.proofs.byte_or_zero.Tie as tie
 
 add-if1 : tie.Need-add-if1
 add-if1 c = search needs

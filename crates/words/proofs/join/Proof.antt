@@ -1,8 +1,8 @@
 -- The bits of `high` and of `low` do not meet. Assumes nothing.
 use borrow.Author.Needs.{needs}
-use Rattle.bits.proofs.Words.{joined}
-use Rattle.bits.proofs.join.Statement.{statement}
-use Rattle.bits.proofs.join.Tie as tie
+use Rattle.words.proofs.Words.{joined}
+use Rattle.words.proofs.join.Statement.{statement}
+use Rattle.words.proofs.join.Tie as tie
 
 shl-result : tie.Need-shl-result
 shl-result c = search needs

@@ -3,9 +3,9 @@ use mathlib.Core.Path.{_≡_, ap, _∙_}
 use Prim.Native.Nat.{ℕ, _%_, _^_}
 use native.Mathlib.Nat.{div-one}
 use borrow.Author.Needs.{needs}
-use Rattle.bits.proofs.Words.{Parts, parts}
-use Rattle.bits.proofs.between.Statement.{statement}
-use Rattle.bits.proofs.between.Tie as tie
+use Rattle.words.proofs.Words.{Parts, parts}
+use Rattle.words.proofs.between.Statement.{statement}
+use Rattle.words.proofs.between.Tie as tie
 
 add-join : tie.Need-add-join
 add-join c = search needs

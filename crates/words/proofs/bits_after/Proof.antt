@@ -1,8 +1,8 @@
 -- A shift to the left drops the bits before the field, and shifts to the right those after it. Assumes nothing.
 use borrow.Author.Needs.{needs}
-use Rattle.bits.proofs.Words.{after-skip}
-use Rattle.bits.proofs.bits_after.Statement.{statement}
-use Rattle.bits.proofs.bits_after.Tie as tie
+use Rattle.words.proofs.Words.{after-skip}
+use Rattle.words.proofs.bits_after.Statement.{statement}
+use Rattle.words.proofs.bits_after.Tie as tie
 
 shl-result : tie.Need-shl-result
 shl-result c = search needs

@@ -5,8 +5,8 @@ use native.Mathlib.Omega.{arith}
 use borrow.Author.Needs.{needs}
 use lib.Pow.{shl-exact}
 use Rattle.plan.proofs.Fields.{field-byte}
-use Rattle.bits.proofs.byte.Statement.{statement}
-use Rattle.bits.proofs.byte.Tie as tie
+use Rattle.words.proofs.byte.Statement.{statement}
+use Rattle.words.proofs.byte.Tie as tie
 
 add-result : tie.Need-add-result
 add-result c = search needs

@@ -1,9 +1,9 @@
 -- The word is two halves. Assumes nothing.
 use mathlib.Core.Path.{_∙_}
 use borrow.Author.Needs.{needs}
-use Rattle.bits.proofs.Takes.{two-halves, halves-join}
-use Rattle.bits.proofs.word_at_end.Statement.{statement}
-use Rattle.bits.proofs.word_at_end.Tie as tie
+use Rattle.words.proofs.Takes.{two-halves, halves-join}
+use Rattle.words.proofs.word_at_end.Statement.{statement}
+use Rattle.words.proofs.word_at_end.Tie as tie
 
 half-at-end-requires : tie.Need-half-at-end-requires
 half-at-end-requires c κs = search needs

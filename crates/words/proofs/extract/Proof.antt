@@ -1,9 +1,9 @@
 -- A shift and a mask are a quotient and a remainder. Assumes nothing.
 use Prim.Native.Nat.{_/_, _^_}
 use borrow.Author.Needs.{needs}
-use Rattle.bits.proofs.Words.{one-shl-pos, masked}
-use Rattle.bits.proofs.extract.Statement.{statement}
-use Rattle.bits.proofs.extract.Tie as tie
+use Rattle.words.proofs.Words.{one-shl-pos, masked}
+use Rattle.words.proofs.extract.Statement.{statement}
+use Rattle.words.proofs.extract.Tie as tie
 
 shr-result : tie.Need-shr-result
 shr-result c = search needs

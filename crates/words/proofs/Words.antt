@@ -7,7 +7,7 @@ use native.Mathlib.Omega.{arith}
 use lib.Arith.{digits-lt}
 use lib.Pow.{pow-pos, pow-lt, pow-mono, pow-add, shl-lt, shr-lt, shl-shr, shr-shr, split, high, low as low-of, field as field-of}
 use lib.Bits.{bitAnd, bitOr, and-mask, or-shifted}
-use Rattle.bits.specs.Words.{Joins, Inserted}
+use Rattle.words.specs.Words.{Joins, Inserted}
 
 -- `1 << n` loses nothing
 one-shl : (n : ℕ) → n < 64 → (1 * 2 ^ n) % 2 ^ 64 ≡ 2 ^ n

@@ -1,0 +1,2 @@
+-- What joining and inserting bits ask for and give.
+pub mod Words
