@@ -2,6 +2,8 @@
 // of them from the moment it leaves the header until it is dollars, so that neither can be taken for the other.
 ghost use mathlib.Core.Path.{_≡_};
 ghost use Prim.Native.Nat.{_*_, _^_, _≤_, _<_};
+ghost use Rattle.plan.specs.Sizes.{mostRisks, mostRiskLosses, mostMark};
+ghost use Rattle.plan.specs.Header.{standardPremiumField};
 ghost use Rattle.plan.specs.Marks.{lossRatioDollars, entryRatioDollars, markOf, dollars};
 ghost use Rattle.marks.specs.Measures.{lossRatio, entryRatio, markIs};
 
@@ -20,7 +22,7 @@ pub enum Mark {
 impl LossRatio {
     // m × P ÷ 1,000.
     pub fn dollars(self, standard_premium: u32) -> u32
-        requires { ⌜ (self .0 ≤ 6000) × («standard_premium» < 2 ^ 22) ⌝ }
+        requires { ⌜ (self .0 ≤ mostMark) × («standard_premium» < 2 ^ standardPremiumField .width) ⌝ }
         ensures { λ r. ⌜ r ≡ lossRatioDollars (lossRatio self) «standard_premium» ⌝ }
     {
         ((self.0 as u64) * (standard_premium as u64) / 1000) as u32
@@ -30,7 +32,7 @@ impl LossRatio {
 impl EntryRatio {
     // m × SA ÷ (1,000 × n).
     pub fn dollars(self, limited: u64, risks: u32) -> u32
-        requires { ⌜ (self .0 ≤ 6000) × (0 < risks) × (risks ≤ 255) × (limited ≤ 66060225 * risks) ⌝ }
+        requires { ⌜ (self .0 ≤ mostMark) × (0 < risks) × (risks ≤ mostRisks) × (limited ≤ mostRiskLosses * risks) ⌝ }
         ensures { λ r. ⌜ r ≡ entryRatioDollars (entryRatio self) risks limited ⌝ }
     {
         ((self.0 as u64) * limited / (1000 * (risks as u64))) as u32

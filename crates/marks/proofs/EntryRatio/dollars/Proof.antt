@@ -1,6 +1,7 @@
 -- `marks::EntryRatio::dollars` meets its contract: the product is at most 6,000 × 66,060,225 × n, so the quotient is at most
 -- 6 × 66,060,225. Assumes nothing.
 use mathlib.Core.Path.{_≡_}
+use Rattle.plan.specs.Sizes.{mostDollars}
 use Prim.Native.Nat.{ℕ, _*_, _/_, _≤_}
 use native.Mathlib.Nat.{mul-le-mul, div-le-of-le-mul}
 use native.Mathlib.Omega.{arith}
@@ -23,7 +24,7 @@ div-result c = search needs
 cast-result-2 : tie.Need-cast-result-2
 cast-result-2 c =
     let a = c .before .args in
-    let l : a .self .0 * a .limited / (1000 * a .risks) ≤ 396361350 =
+    let l : a .self .0 * a .limited / (1000 * a .risks) ≤ mostDollars =
     div-le-of-le-mul (1000 * a .risks) (omega (arith, mul-le-mul (c .before .pre .0) (c .before .pre .3))) in
     omega (arith, l)
 
