@@ -1,7 +1,3 @@
--- The code's values as document 01's, and what each function gives.
-pub mod Values
-pub mod Head
-pub mod Walks
-pub mod Gate
-pub mod Read
-pub mod Write
+-- What taking the header and opening a file give.
+pub mod Header
+pub mod Opening

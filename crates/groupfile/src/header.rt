@@ -1,31 +1,37 @@
 // The header of a group file: its eleven fields, taken one after another, and questions 3 to 7 of their values.
 ghost use mathlib.Core.Path.{_≡_};
 ghost use Rattle.plan.specs.Questions.{firstNo, headerQuestions};
-ghost use Rattle.groupfile.specs.Values.{headerIs, verdictIs, between};
-ghost use Rattle.groupfile.specs.Head.{FrontIs, BackIs, HeadIs};
+ghost use Rattle.plan.specs.Header.{headerBits};
+ghost use Rattle.group.specs.Values.{headerIs, verdictIs};
+ghost use Rattle.groupfile.specs.Header.{between, tax-place, FirstFieldsAre, LastFieldsAre, FileHeaderIs};
 use bits::BitPlace;
+use group::Header;
+use group::MOST_MARK;
+use group::Verdict;
 
-// The header values, loss limit to minimum mark.
-#[repr(C)]
-pub struct Header {
-    pub loss_limit: u32,
-    pub standard_premium: u32,
-    pub expense: u32,
-    pub conversion: u32,
-    pub tax: u32,
-    pub mark_kind: u32,
-    pub maximum_mark: u32,
-    pub minimum_mark: u32,
-}
+// Bits of each field.
+pub const EDITION_WIDTH: u32 = 4;
 
-// What questions come to: all passed, or the number of the first that failed.
-pub enum Verdict {
-    Passed,
-    Failed(u32),
-}
+pub const LOSS_LIMIT_WIDTH: u32 = 20;
 
-// The first five fields, and the place after them.
-pub struct Front {
+pub const STANDARD_PREMIUM_WIDTH: u32 = 22;
+
+pub const EXPENSE_WIDTH: u32 = 20;
+
+pub const CONVERSION_WIDTH: u32 = 11;
+
+pub const TAX_WIDTH: u32 = 15;
+
+pub const MARK_KIND_WIDTH: u32 = 1;
+
+pub const MARK_WIDTH: u32 = 13;
+
+pub const RISKS_WIDTH: u32 = 8;
+
+pub const SPARE_WIDTH: u32 = 1;
+
+// Edition to loss conversion factor, and the place after them.
+pub(crate) struct FirstFields {
     pub edition: u32,
     pub loss_limit: u32,
     pub standard_premium: u32,
@@ -34,35 +40,37 @@ pub struct Front {
     pub next: BitPlace,
 }
 
-// The other six.
-pub struct Back {
+// Tax multiplier to spare bit, and the place after them.
+pub(crate) struct LastFields {
     pub tax: u32,
     pub mark_kind: u32,
     pub maximum_mark: u32,
     pub minimum_mark: u32,
     pub risks: u32,
     pub spare: u32,
+    pub next: BitPlace,
 }
 
-// The whole header as a file has it.
-pub struct Head {
+// The header as a file has it: the header values, what stands around them, and the place where the header ends.
+pub(crate) struct FileHeader {
     pub edition: u32,
     pub values: Header,
     pub risks: u32,
     pub spare: u32,
+    pub next: BitPlace,
 }
 
 // Edition to loss conversion factor.
-fn front_of(file: &[u8]) -> Front
-    ensures { λ r. ⌜ FrontIs (now (file .entry)) r ⌝ }
+fn first_fields(file: &[u8]) -> FirstFields
+    ensures { λ r. ⌜ FirstFieldsAre (now (file .entry)) r ⌝ }
 {
-    let edition = BitPlace { at: 0 }.take(file, 4);
-    let limit = edition.next.take(file, 20);
-    let premium = limit.next.take(file, 22);
-    let expense = premium.next.take(file, 20);
-    let conversion = expense.next.take(file, 11);
+    let edition = BitPlace { at: 0 }.take(file, EDITION_WIDTH);
+    let limit = edition.next.take(file, LOSS_LIMIT_WIDTH);
+    let premium = limit.next.take(file, STANDARD_PREMIUM_WIDTH);
+    let expense = premium.next.take(file, EXPENSE_WIDTH);
+    let conversion = expense.next.take(file, CONVERSION_WIDTH);
     let next = conversion.next;
-    Front {
+    FirstFields {
         edition: edition.value,
         loss_limit: limit.value,
         standard_premium: premium.value,
@@ -73,46 +81,50 @@ fn front_of(file: &[u8]) -> Front
 }
 
 // Tax multiplier to spare bit, from the place where the loss conversion factor ended.
-fn back_of(file: &[u8], place: BitPlace) -> Back
-    requires { ⌜ place .at ≡ 77 ⌝ }
-    ensures { λ r. ⌜ BackIs (now (file .entry)) r ⌝ }
+fn last_fields(file: &[u8], place: BitPlace) -> LastFields
+    requires { ⌜ place .at ≡ tax-place ⌝ }
+    ensures { λ r. ⌜ LastFieldsAre (now (file .entry)) r ⌝ }
 {
-    let tax = place.take(file, 15);
-    let kind = tax.next.take(file, 1);
-    let maximum = kind.next.take(file, 13);
-    let minimum = maximum.next.take(file, 13);
-    let risks = minimum.next.take(file, 8);
-    let spare = risks.next.take(file, 1);
-    Back {
+    let tax = place.take(file, TAX_WIDTH);
+    let kind = tax.next.take(file, MARK_KIND_WIDTH);
+    let maximum = kind.next.take(file, MARK_WIDTH);
+    let minimum = maximum.next.take(file, MARK_WIDTH);
+    let risks = minimum.next.take(file, RISKS_WIDTH);
+    let spare = risks.next.take(file, SPARE_WIDTH);
+    let next = spare.next;
+    LastFields {
         tax: tax.value,
         mark_kind: kind.value,
         maximum_mark: maximum.value,
         minimum_mark: minimum.value,
         risks: risks.value,
         spare: spare.value,
+        next,
     }
 }
 
 // The header of a file, whatever its length: bits past the end are 0.
-pub fn head_of(file: &[u8]) -> Head
-    ensures { λ r. ⌜ HeadIs (now (file .entry)) r ⌝ }
+pub(crate) fn header_of(file: &[u8]) -> FileHeader
+    ensures { λ r. ⌜ FileHeaderIs (now (file .entry)) r ⌝ }
 {
-    let front = front_of(file);
-    let back = back_of(file, front.next);
-    Head {
-        edition: front.edition,
+    let first = first_fields(file);
+    let last = last_fields(file, first.next);
+    let next = last.next;
+    FileHeader {
+        edition: first.edition,
         values: Header {
-            loss_limit: front.loss_limit,
-            standard_premium: front.standard_premium,
-            expense: front.expense,
-            conversion: front.conversion,
-            tax: back.tax,
-            mark_kind: back.mark_kind,
-            maximum_mark: back.maximum_mark,
-            minimum_mark: back.minimum_mark,
+            loss_limit: first.loss_limit,
+            standard_premium: first.standard_premium,
+            expense: first.expense,
+            conversion: first.conversion,
+            tax: last.tax,
+            mark_kind: last.mark_kind,
+            maximum_mark: last.maximum_mark,
+            minimum_mark: last.minimum_mark,
         },
-        risks: back.risks,
-        spare: back.spare,
+        risks: last.risks,
+        spare: last.spare,
+        next,
     }
 }
 
@@ -136,10 +148,10 @@ pub fn header_verdict(h: Header, risks: usize) -> Verdict
     if !in_range(10000, h.tax, 20000) {
         return Verdict::Failed(5);
     }
-    if h.maximum_mark > 6000 {
+    if h.maximum_mark > MOST_MARK {
         return Verdict::Failed(6);
     }
-    if h.minimum_mark > 6000 {
+    if h.minimum_mark > MOST_MARK {
         return Verdict::Failed(6);
     }
     if risks < 1 {

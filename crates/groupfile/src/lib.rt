@@ -1,7 +1,4 @@
-// The group file: the header and the claims taken from its bytes and put into bytes, questions 1 to 9, Read and Write.
-// What the losses come to in premiums is not known here.
-pub mod gate;
+// The group file as every call takes it: the header taken from its bytes, questions 3 to 7 of header values, and the file opened,
+// with questions 1 to 9. What the losses come to in premiums is not known here.
 pub mod header;
-pub mod reader;
-pub mod walk;
-pub mod writer;
+pub mod opening;

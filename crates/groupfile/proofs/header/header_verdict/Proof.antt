@@ -1,13 +1,16 @@
--- `groupfile::header::header_verdict` meets its contract: at each return, the tests on the way are the answers to the questions
--- so far. Assumes nothing.
+-- Each test is a question's answer: a No returns it, a Yes leaves the questions after it. Assumes nothing.
 use mathlib.Core.Path.{_≡_, sym, _∙_}
-use mathlib.Core.Bool.{Bool, true, false, not, _&&_}
-use mathlib.Core.List.{[], _∷_}
+use mathlib.Core.Bool.{Bool, true, false, not}
+use mathlib.Core.List.{List, [], _∷_}
+use Prim.Native.Nat.{ℕ}
 use borrow.Author.Tests.{not-true, not-false, le-leb, lt-leb}
 use borrow.Author.Needs.{needs}
-use lib.Dec.{leb}
-use Rattle.plan.specs.Questions.{ask, firstNo, headerQuestions}
-use Rattle.groupfile.specs.Values.{headerIs, between}
+use Rattle.plan.specs.Header.{Header}
+use Rattle.plan.specs.Questions.{Question, firstNo, question4, question5, question6, question7, headerQuestions}
+use Rattle.plan.proofs.Tests.{and-yes, and-first-no, and-second-no}
+use Rattle.plan.proofs.Questions.{goes-on, stops}
+use Rattle.group.specs.Values.{headerIs}
+use Rattle.groupfile.specs.Header.{between}
 use Rattle.groupfile.proofs.header.header_verdict.Statement.{statement}
 use Rattle.groupfile.proofs.header.header_verdict.Tie as tie
 
@@ -17,8 +20,66 @@ inside e h = sym e ∙ not-false _ h
 outside : {r b : Bool} → r ≡ b → not r ≡ true → b ≡ false
 outside e h = sym e ∙ not-true _ h
 
+-- ---- what is left after each question
+
+abbrev after6 : Header → ℕ → List Question
+after6 h n = question7 n ∷ []
+
+abbrev after5 : Header → ℕ → List Question
+after5 h n = question6 h ∷ after6 h n
+
+abbrev after4 : Header → ℕ → List Question
+after4 h n = question5 h ∷ after5 h n
+
+abbrev after3 : Header → ℕ → List Question
+after3 h n = question4 h ∷ after4 h n
+
+-- ---- the places of the code where a question has passed, and the values asked
+
+abbrev start3 : tie.Else1 → tie.Start
+start3 c = c .before .before
+
+abbrev start4 : tie.Else2 → tie.Start
+start4 c = start3 (c .before .before)
+
+abbrev start5 : tie.Else3 → tie.Start
+start5 c = start4 (c .before .before)
+
+abbrev start6 : tie.Else5 → tie.Start
+start6 c = start5 (c .before .before .before .before)
+
+abbrev values : tie.Start → Header
+values s = headerIs (s .args .h)
+
+abbrev Left : tie.Start → (Header → ℕ → List Question) → Type 0
+Left s rest = firstNo (headerQuestions (values s) (s .args .risks)) ≡ firstNo (rest (values s) (s .args .risks))
+
+past3 : (c : tie.Else1) → Left (start3 c) after3
+past3 c = let s = start3 c in goes-on 3 (after3 (values s) (s .args .risks)) (le-leb _ _ (c .if1 .left))
+
+past4 : (c : tie.Else2) → Left (start4 c) after4
+unfolding between
+past4 c =
+    let s = start4 c in
+    past3 (c .before .before) ∙ goes-on 4 (after4 (values s) (s .args .risks)) (inside (c .before .in-range .ensures) (c .if2 .left))
+
+past5 : (c : tie.Else3) → Left (start5 c) after5
+unfolding between
+past5 c =
+    let s = start5 c in
+    past4 (c .before .before) ∙ goes-on 5 (after5 (values s) (s .args .risks)) (inside (c .before .in-range2 .ensures) (c .if3 .left))
+
+past6 : (c : tie.Else5) → Left (start6 c) after6
+past6 c =
+    let s = start6 c in
+    let maximum = c .before .before in
+    past5 (maximum .before .before)
+    ∙ goes-on 6 (after6 (values s) (s .args .risks)) (and-yes (le-leb _ _ (maximum .if4 .left)) (le-leb _ _ (c .if5 .left)))
+
+-- ---- the needs
+
 returns : tie.Need-returns
-returns c = simp (lt-leb _ _ (c .if1 .taken))
+returns c = let s = c .before .before in sym (stops 3 (after3 (values s) (s .args .risks)) (lt-leb _ _ (c .if1 .taken)))
 
 in-range-requires : tie.Need-in-range-requires
 in-range-requires c κs = search needs
@@ -26,10 +87,9 @@ in-range-requires c κs = search needs
 returns-2 : tie.Need-returns-2
 unfolding between
 returns-2 c =
-    simp (
-      le-leb _ _ (c .before .before .if1 .left),
-      outside (c .before .in-range .ensures) (c .if2 .taken),
-    )
+    let p = c .before .before in
+    let s = start3 p in
+    sym (past3 p ∙ stops 4 (after4 (values s) (s .args .risks)) (outside (c .before .in-range .ensures) (c .if2 .taken)))
 
 in-range-requires-2 : tie.Need-in-range-requires-2
 in-range-requires-2 c κs = search needs
@@ -37,48 +97,29 @@ in-range-requires-2 c κs = search needs
 returns-3 : tie.Need-returns-3
 unfolding between
 returns-3 c =
-    let c2 = c .before .before in
-    simp (
-      le-leb _ _ (c2 .before .before .if1 .left),
-      inside (c2 .before .in-range .ensures) (c2 .if2 .left),
-      outside (c .before .in-range2 .ensures) (c .if3 .taken),
-    )
-
--- past question 5, the marks and n are left
-past-five : (c : tie.Else3)
-    → let a = c .before .before .before .before .before .before .args in
-    firstNo (headerQuestions (headerIs (a .h)) (a .risks))
-    ≡ firstNo (ask 6 (leb (a .h .«maximum_mark») 6000 && leb (a .h .«minimum_mark») 6000) ∷ ask 7 (leb 1 (a .risks)) ∷ [])
-unfolding between
-past-five c =
-    let c2 = c .before .before in
-    simp (
-      le-leb _ _ (c2 .before .before .if1 .left),
-      inside (c2 .before .in-range .ensures) (c2 .if2 .left),
-      inside (c .before .in-range2 .ensures) (c .if3 .left),
-    )
+    let p = c .before .before in
+    let s = start4 p in
+    sym (past4 p ∙ stops 5 (after5 (values s) (s .args .risks)) (outside (c .before .in-range2 .ensures) (c .if3 .taken)))
 
 returns-4 : tie.Need-returns-4
-returns-4 c = sym (past-five (c .before .before) ∙ simp (lt-leb _ _ (c .if4 .taken)))
+returns-4 c =
+    let p = c .before .before in
+    let s = start5 p in
+    sym (past5 p ∙ stops 6 (after6 (values s) (s .args .risks)) (and-first-no _ (lt-leb _ _ (c .if4 .taken))))
 
 returns-5 : tie.Need-returns-5
 returns-5 c =
-    let c4 = c .before .before in
-    sym (past-five (c4 .before .before) ∙ simp (le-leb _ _ (c4 .if4 .left), lt-leb _ _ (c .if5 .taken)))
+    let maximum = c .before .before in
+    let p = maximum .before .before in
+    let s = start5 p in
+    sym (past5 p
+    ∙ stops 6 (after6 (values s) (s .args .risks)) (and-second-no (le-leb _ _ (maximum .if4 .left)) (lt-leb _ _ (c .if5 .taken))))
 
 returns-6 : tie.Need-returns-6
-returns-6 c =
-    let c5 = c .before in
-    let c4 = c5 .before .before in
-    sym (past-five (c4 .before .before)
-    ∙ simp (le-leb _ _ (c4 .if4 .left), le-leb _ _ (c5 .if5 .left), lt-leb _ _ (c .if6 .taken)))
+returns-6 c = sym (past6 (c .before) ∙ stops 7 [] (lt-leb _ _ (c .if6 .taken)))
 
 returns-7 : tie.Need-returns-7
-returns-7 c =
-    let c5 = c .before in
-    let c4 = c5 .before .before in
-    sym (past-five (c4 .before .before)
-    ∙ simp (le-leb _ _ (c4 .if4 .left), le-leb _ _ (c5 .if5 .left), le-leb _ _ (c .if6 .left)))
+returns-7 c = sym (past6 (c .before) ∙ goes-on 7 [] (le-leb _ _ (c .if6 .left)))
 
 pub header-verdict-spec : {M : Type 1} → statement M
 header-verdict-spec =

@@ -1,6 +1,6 @@
 -- `groupfile::header::in_range` meets its contract, as each half of the test has it. Assumes nothing.
 use borrow.Author.Tests.{le-leb, lt-leb}
-use Rattle.groupfile.specs.Values.{between}
+use Rattle.groupfile.specs.Header.{between}
 use Rattle.groupfile.proofs.header.in_range.Statement.{statement}
 use Rattle.groupfile.proofs.header.in_range.Tie as tie
 

@@ -1,0 +1,22 @@
+-- Taking a claim: what it asks for, and what it gives.
+use mathlib.Core.Path.{_≡_}
+use mathlib.Core.List.{List}
+use Prim.Native.Nat.{ℕ, _+_, _*_, _/_, _≤_}
+use Rattle.plan.specs.Sizes.{mostClaims, mostFileBits}
+use Rattle.plan.specs.Claim.{claimWidth, claimAt, pastClaim}
+use Rattle.bits.specs.declared.Taken.{Taken}
+
+-- a run of `count` claims that begins where one of a file can
+pub record RunReach (at count : ℕ) : Type 0 where
+  pub few : count ≤ mostClaims
+  pub inside : at ≤ mostFileBits
+
+-- the word of the claim after `count` others, and of each before it, ends at byte `reach` or before
+pub record ClaimReach (at count reach : ℕ) : Type 0 where
+  pub inside : at + claimWidth * count ≤ mostFileBits + claimWidth * mostClaims
+  pub ends : (at + claimWidth * count) / 8 + 8 ≤ reach
+
+-- the claim at the place `at` of the file s, and the place after it
+pub record ClaimTaken (s : List ℕ) (at : ℕ) (r : Taken) : Type 0 where
+  pub is : r .value ≡ claimAt s at
+  pub next : r .next .at ≡ pastClaim s at

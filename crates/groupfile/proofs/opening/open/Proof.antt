@@ -1,0 +1,50 @@
+-- The walk is that of the file's own n and loss limit, from the header's end on. Assumes nothing.
+use mathlib.Core.Path.{_≡_, ap, _∙_, subst₃}
+use Prim.Native.Nat.{ℕ}
+use native.Mathlib.Omega.{arith}
+use borrow.Author.Needs.{needs}
+use Rattle.plan.specs.Header as plan
+use Rattle.plan.proofs.FileSizes.{risks-le}
+use Rattle.claims.specs.Walks.{WalkIs}
+use Rattle.groupfile.proofs.opening.open.Statement.{statement}
+use Rattle.groupfile.proofs.opening.open.Tie as tie
+
+header-of-requires : tie.Need-header-of-requires
+header-of-requires c κs = search needs
+
+-- the place where the header is known, and where the walk begins
+abbrev known : tie.After-first → tie.After-header-of
+known c = c .before .before
+
+walk-requires : tie.Need-walk-requires
+walk-requires c κs =
+    let h = known c in
+    let e = h .header-of .ensures in
+    (omega (arith, e .risks, risks-le (h .before .before .args .file .now)), omega (arith, e .next))
+
+walked : (c : tie.After-walk)
+    → let s = known (c .before) .before .before .args .file .now in
+    WalkIs s plan.headerBits (plan.riskCount s) (plan.headerOf s .lossLimit) (c .walk .result)
+walked c =
+    let h = known (c .before) in
+    let s = h .before .before .args .file .now in
+    let e = h .header-of .ensures in
+    subst₃ (λ (p n l : ℕ). WalkIs s p n l (c .walk .result)) (e .next) (e .risks)
+    (ap (λ (x : plan.Header). x .lossLimit) (e .values)) (c .walk .ensures)
+
+file-verdict-requires : tie.Need-file-verdict-requires
+file-verdict-requires c κs = (known (c .before) .header-of .ensures, walked c .end)
+
+returns : tie.Need-returns
+returns c =
+    let w = c .before .before in
+    let e = known (w .before) .header-of .ensures in
+    record {
+      verdict = c .before .file-verdict .ensures;
+      header = e .values;
+      risks = record { first = e .next; claims = walked w .claims };
+      losses = walked w .losses;
+    }
+
+pub open-spec : {M : Type 1} → statement M
+open-spec = tie.close (tie.spec header-of-requires walk-requires file-verdict-requires returns)

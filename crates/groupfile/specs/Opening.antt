@@ -1,0 +1,24 @@
+-- What opening a file gives, whichever gate was asked.
+use mathlib.Core.Path.{_≡_}
+use mathlib.Core.List.{List}
+use Prim.Native.Nat.{ℕ}
+use Rattle.plan.specs.Arithmetic.{sum}
+use Rattle.plan.specs.Header.{headerOf, headerBits}
+use Rattle.plan.specs.File.{countsOf}
+use Rattle.plan.specs.Losses.{lossesIn}
+use Rattle.plan.specs.Questions.{Question, firstNo}
+use Rattle.group.specs.Values.{headerIs, verdictIs, LossesAre}
+use Rattle.groupfile.specs.declared.opening.RiskRun.{RiskRun}
+use Rattle.groupfile.specs.declared.opening.Opened.{Opened}
+
+-- the risks of the file s: where they begin, and how many claims there are
+pub record RiskRunIs (s : List ℕ) (r : RiskRun) : Type 0 where
+  pub first : r .first .at ≡ headerBits
+  pub claims : r .claims ≡ sum (countsOf s)
+
+-- of the file s: the gate's verdict and, whatever it is, the header values, the risks, and step 1's losses
+pub record OpenedIs (gate : List Question) (s : List ℕ) (r : Opened) : Type 0 where
+  pub verdict : verdictIs (r .verdict) ≡ firstNo gate
+  pub header : headerIs (r .header) ≡ headerOf s
+  pub risks : RiskRunIs s (r .risks)
+  pub losses : LossesAre (lossesIn s) (r .losses)

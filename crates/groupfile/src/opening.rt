@@ -1,0 +1,91 @@
+// A file opened: questions 1 to 9, with all that Read, Rate and Table take from it. Every call on a file passes this gate first; it
+// needs no buffer.
+ghost use mathlib.Core.Path.{_≡_};
+ghost use Rattle.plan.specs.File.{endOf};
+ghost use Rattle.plan.specs.Questions.{firstNo, endQuestions, fileQuestions};
+ghost use Rattle.group.specs.Values.{verdictIs};
+ghost use Rattle.groupfile.specs.Header.{FileHeaderIs};
+ghost use Rattle.groupfile.specs.Opening.{OpenedIs};
+use crate::header::FileHeader;
+use crate::header::header_of;
+use crate::header::header_verdict;
+use bits::BitPlace;
+use claims::walk::walk;
+use group::GroupLosses;
+use group::Header;
+use group::Verdict;
+
+// Bytes of the header.
+pub const HEADER_BYTES: usize = 16;
+
+// The risks as they lie in a file, for a call that goes over them again: the place of the first, and the number of all claims.
+pub struct RiskRun {
+    pub first: BitPlace,
+    pub claims: u32,
+}
+
+// What questions come to, and what a file has whatever they come to: the header values, its risks, and the losses.
+pub struct Opened {
+    pub verdict: Verdict,
+    pub header: Header,
+    pub risks: RiskRun,
+    pub losses: GroupLosses,
+}
+
+// Questions 8 and 9 of a file whose last field ends at a place.
+fn end_verdict(file: &[u8], end: BitPlace) -> Verdict
+    requires { ⌜ end .at ≡ endOf (now file) ⌝ }
+    ensures { λ r. ⌜ verdictIs r ≡ firstNo (endQuestions (now (file .entry))) ⌝ }
+{
+    if file.len() != (end.at + 7) / 8 {
+        return Verdict::Failed(8);
+    }
+    let width = 8 * file.len() - end.at;
+    let fill = end.take(file, width as u32);
+    if fill.value != 0 {
+        return Verdict::Failed(9);
+    }
+    Verdict::Passed
+}
+
+// Questions 1 to 9 of a file with this header, whose last field ends at a place.
+fn file_verdict(file: &[u8], header: FileHeader, end: BitPlace) -> Verdict
+    requires { ⌜ FileHeaderIs (now file) header × (end .at ≡ endOf (now file)) ⌝ }
+    ensures { λ r. ⌜ verdictIs r ≡ firstNo (fileQuestions (now (file .entry))) ⌝ }
+{
+    if file.len() < HEADER_BYTES {
+        return Verdict::Failed(1);
+    }
+    if header.edition != 1 {
+        return Verdict::Failed(2);
+    }
+    if header.spare != 0 {
+        return Verdict::Failed(2);
+    }
+    let values = header.values;
+    match header_verdict(values, header.risks as usize) {
+        Verdict::Failed(k) => Verdict::Failed(k),
+        Verdict::Passed => end_verdict(file, end),
+    }
+}
+
+// Opens a file of whatever bytes.
+pub fn open(file: &[u8]) -> Opened
+    ensures { λ r. ⌜ OpenedIs (fileQuestions (now (file .entry))) (now (file .entry)) r ⌝ }
+{
+    let header = header_of(file);
+    let values = header.values;
+    let first = header.next;
+    let walked = walk(file, first, header.risks, values.loss_limit);
+    let verdict = file_verdict(file, header, walked.end);
+    let losses = walked.losses;
+    Opened {
+        verdict,
+        header: values,
+        risks: RiskRun {
+            first,
+            claims: walked.claims,
+        },
+        losses,
+    }
+}
