@@ -1,0 +1,2 @@
+-- What putting a risk and the whole file asks for.
+pub mod Putting

@@ -1,0 +1,100 @@
+// The fields of a group file put one after another: the header's in two runs, the risks', and the fill. That the
+// values fit and the buffer has room was asked before.
+ghost use mathlib.Core.Path.{_≡_};
+ghost use Prim.Native.Nat.{_≤_};
+ghost use lib.ListN.{length};
+ghost use Rattle.plan.specs.Arithmetic.{sum};
+ghost use Rattle.plan.specs.Calls.{filled};
+ghost use Rattle.plan.specs.Risk.{slotsOfRisks};
+ghost use Rattle.plan.specs.File.{fileOf};
+ghost use Rattle.bits.specs.Runs.{Space, Wrote};
+ghost use Rattle.group.specs.Values.{headerIs};
+ghost use Rattle.putting.specs.Putting.{firstSlots, lastSlots, slotsOfRisk, Ready};
+use bits::BitPlace;
+use claims::claim::put_claim;
+use claims::walk::COUNT_WIDTH;
+use group::Header;
+use groupfile::header::CONVERSION_WIDTH;
+use groupfile::header::EDITION_WIDTH;
+use groupfile::header::EXPENSE_WIDTH;
+use groupfile::header::LOSS_LIMIT_WIDTH;
+use groupfile::header::MARK_KIND_WIDTH;
+use groupfile::header::MARK_WIDTH;
+use groupfile::header::RISKS_WIDTH;
+use groupfile::header::SPARE_WIDTH;
+use groupfile::header::STANDARD_PREMIUM_WIDTH;
+use groupfile::header::TAX_WIDTH;
+
+// Puts edition to loss conversion factor, and gives the place after them.
+fn put_first(out: &mut [u8], h: Header) -> BitPlace
+    requires { ⌜ Space (now out) 0 (firstSlots (headerIs h)) ⌝ }
+    ensures { λ r. ⌜ Wrote (now (out .entry)) 0 (firstSlots (headerIs h)) (now (out .exit)) (r .at) ⌝ }
+{
+    let limit = BitPlace { at: 0 }.put(out, EDITION_WIDTH, 1);
+    let premium = limit.put(out, LOSS_LIMIT_WIDTH, h.loss_limit);
+    let expense = premium.put(out, STANDARD_PREMIUM_WIDTH, h.standard_premium);
+    let conversion = expense.put(out, EXPENSE_WIDTH, h.expense);
+    conversion.put(out, CONVERSION_WIDTH, h.conversion)
+}
+
+// Puts tax multiplier to spare bit.
+fn put_last(out: &mut [u8], place: BitPlace, h: Header, risks: u32) -> BitPlace
+    requires { ⌜ Space (now out) (place .at) (lastSlots (headerIs h) risks) ⌝ }
+    ensures { λ r. ⌜ Wrote (now (out .entry)) (place .at) (lastSlots (headerIs h) risks)
+        (now (out .exit)) (r .at) ⌝ }
+{
+    let kind = place.put(out, TAX_WIDTH, h.tax);
+    let maximum = kind.put(out, MARK_KIND_WIDTH, h.mark_kind);
+    let minimum = maximum.put(out, MARK_WIDTH, h.maximum_mark);
+    let n = minimum.put(out, MARK_WIDTH, h.minimum_mark);
+    let spare = n.put(out, RISKS_WIDTH, risks);
+    spare.put(out, SPARE_WIDTH, 0)
+}
+
+// Puts a risk: the number of its claims, then its claims.
+fn put_risk(out: &mut [u8], place: BitPlace, claims: &[u32]) -> BitPlace
+    requires { ⌜ Space (now out) (place .at) (slotsOfRisk (now claims)) ⌝ }
+    ensures { λ r. ⌜ Wrote (now (out .entry)) (place .at) (slotsOfRisk (now (claims .entry)))
+        (now (out .exit)) (r .at) ⌝ }
+{
+    let mut next = place.put(out, COUNT_WIDTH, claims.len() as u32);
+    let mut i = 0;
+    while i < claims.len() {
+        next = put_claim(out, next, claims[i]);
+        i += 1;
+    }
+    next
+}
+
+// Puts the risks, each with as many of the claims as its count says.
+fn put_risks(out: &mut [u8], place: BitPlace, counts: &[u8], claims: &[u32]) -> BitPlace
+    requires { ⌜ Space (now out) (place .at) (slotsOfRisks (now counts) (now claims)) ⌝ }
+    requires { ⌜ sum (now counts) ≤ length (now claims) ⌝ }
+    ensures { λ r. ⌜ Wrote (now (out .entry)) (place .at)
+        (slotsOfRisks (now (counts .entry)) (now (claims .entry))) (now (out .exit)) (r .at) ⌝ }
+{
+    let mut next = place;
+    let mut i = 0;
+    let mut first = 0;
+    while i < counts.len() {
+        let past = first + counts[i] as usize;
+        next = put_risk(out, next, &claims[first..past]);
+        first = past;
+        i += 1;
+    }
+    next
+}
+
+// Puts the file over the first bytes of the buffer, as many as `size`: every field, then zero bits that fill the
+// last byte.
+pub fn put_file(out: &mut [u8], header: Header, counts: &[u8], claims: &[u32], size: usize)
+    requires { ⌜ Ready (headerIs header) (now counts) (now claims) (now out) size ⌝ }
+    ensures { λ r. ⌜ now (out .exit)
+        ≡ filled (fileOf (headerIs header) (now (counts .entry)) (now (claims .entry))) (now (out .entry)) ⌝ }
+{
+    let first = put_first(out, header);
+    let last = put_last(out, first, header, counts.len() as u32);
+    let end = put_risks(out, last, counts, claims);
+    let fill = 8 * size - end.at;
+    end.put(out, fill as u32, 0);
+}

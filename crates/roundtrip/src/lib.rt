@@ -1,0 +1,1 @@
+// No code: proofs/RoundTrip.antt joins the contracts of Read and of Write.

@@ -1,0 +1,2 @@
+-- Write's answer as document 01's.
+pub mod Writer

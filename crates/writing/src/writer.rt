@@ -1,0 +1,51 @@
+// Write: the bytes of a group file from given values.
+ghost use mathlib.Core.Path.{_≡_};
+ghost use Prim.Native.Nat.{_+_, _*_, _≤_};
+ghost use Rattle.plan.specs.Sizes.{mostRisks, mostClaims};
+ghost use Rattle.plan.specs.Field.{bytesFor};
+ghost use Rattle.plan.specs.Header.{headerBits};
+ghost use Rattle.plan.specs.Claim.{claimWidth};
+ghost use Rattle.plan.specs.Risk.{countWidth};
+ghost use Rattle.writing.specs.Writer.{givenGroup, WriteSays};
+use crate::fitting::values_fit;
+use claims::claim::CLAIM_WIDTH;
+use claims::walk::COUNT_WIDTH;
+use group::Header;
+use group::Verdict;
+use groupfile::header::header_verdict;
+use groupfile::opening::HEADER_BYTES;
+use putting::put_file;
+
+// What Write gives: the file's length, or the number of the first question that failed.
+pub enum Written {
+    Length(usize),
+    Refused(u32),
+}
+
+// The length of a file with so many risks and claims.
+fn file_length(risks: usize, claims: usize) -> usize
+    requires { ⌜ (risks ≤ mostRisks) × (claims ≤ mostClaims * mostRisks) ⌝ }
+    ensures { λ r. ⌜ r ≡ bytesFor (headerBits + countWidth * risks + claimWidth * claims) ⌝ }
+{
+    (8 * HEADER_BYTES + COUNT_WIDTH as usize * risks + CLAIM_WIDTH as usize * claims + 7) / 8
+}
+
+// The file of given values, put over the first bytes of `out`; or the first question that failed, and nothing.
+pub fn write(header: Header, counts: &[u8], claims: &[u32], out: &mut [u8]) -> Written
+    ensures { λ r. ⌜ WriteSays (givenGroup header (now (counts .entry)) (now (claims .entry)))
+        (now (out .entry)) r (now (out .exit)) ⌝ }
+{
+    let verdict = header_verdict(header, counts.len());
+    if let Verdict::Failed(question) = verdict {
+        return Written::Refused(question);
+    }
+    if !values_fit(header, counts, claims) {
+        return Written::Refused(15);
+    }
+    let size = file_length(counts.len(), claims.len());
+    if out.len() < size {
+        return Written::Refused(13);
+    }
+    put_file(out, header, counts, claims, size);
+    Written::Length(size)
+}
