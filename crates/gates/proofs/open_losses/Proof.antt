@@ -1,0 +1,35 @@
+-- The file's own questions, then question 10 of its limited losses. Assumes nothing.
+use mathlib.Core.Path.{_≡_, sym, ap, ap₂, _∙_}
+use mathlib.Core.List.{List, [], _∷_}
+use Prim.Native.Nat.{ℕ}
+use borrow.Author.Needs.{needs}
+use lib.Dec.{leb}
+use Rattle.plan.specs.Losses.{lossesIn}
+use Rattle.plan.specs.Questions.{Verdict, ask, firstNo, orElse, fileQuestions, question10}
+use Rattle.plan.proofs.Questions.{after-gate}
+use Rattle.gates.proofs.open_losses.Statement.{statement}
+use Rattle.gates.proofs.open_losses.Tie as tie
+
+open-requires : tie.Need-open-requires
+open-requires c κs = search needs
+
+ten-after-requires : tie.Need-ten-after-requires
+ten-after-requires c κs = search needs
+
+returns : tie.Need-returns
+returns c =
+    let o = c .before .before .before .before in
+    let s = o .before .before .args .file .now in
+    let x = o .«open» .ensures in
+    record {
+      verdict =
+          c .ten-after .ensures
+          ∙ ap₂ (λ (v : Verdict) (sa : ℕ). orElse v (firstNo (ask 10 (leb 1 sa) ∷ []))) (x .verdict) (x .losses .limited)
+          ∙ sym (after-gate (fileQuestions s) (question10 (lossesIn s) ∷ []) (λ i. firstNo (fileQuestions s)));
+      header = x .header;
+      risks = x .risks;
+      losses = x .losses;
+    }
+
+pub open-losses-spec : {M : Type 1} → statement M
+open-losses-spec = tie.close (tie.spec open-requires ten-after-requires returns)
