@@ -1,6 +1,3 @@
 -- Laws that the proofs of several functions cite.
-pub mod Adding
-pub mod Group
-pub mod Tabling
-pub mod Bills
-pub mod RateAnswers
+mod Billing
+mod Answers

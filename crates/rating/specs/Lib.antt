@@ -1,6 +1,4 @@
--- What the steps ask for and give, and the answers of Rate and Table as document 01's.
-pub mod Steps
-pub mod Gates
-pub mod Tables
+-- The bills as the code puts them, and the answers of Rate and of the details as document 01's.
+pub mod Bills
 pub mod Rates
-pub mod Detailed
+pub mod Details

@@ -1,32 +1,14 @@
--- The bills as the code computes them, and Rate's answer as document 01's.
+-- Rate's answer as document 01's.
 use mathlib.Core.Path.{_≡_}
 use mathlib.Core.List.{List}
-use Prim.Native.Nat.{ℕ, _+_, _*_, _≤_, _<_}
+use Prim.Native.Nat.{ℕ}
 use lib.IntN.{ℤ, pos}
 use lib.ListN.{length}
-use Rattle.plan.specs.Ratable.{clamp}
-use Rattle.plan.specs.Premium.{billRounding}
 use Rattle.plan.specs.Demand3.{Demand3}
 use Rattle.plan.specs.Calls as plan
 use Rattle.plan.specs.Calls.{Answer, refused, given, giving, rateBuffer}
-use Rattle.rating.specs.declared.rates.BillTerms.{BillTerms}
 use Rattle.rating.specs.declared.rates.Rated.{Rated}
 use Rattle.rating.specs.declared.rates.Rated.the-variants as answers
-
--- the bill of a risk with limited losses a
-unfoldable pub billFor : BillTerms → ℕ → ℕ
-billFor t a =
-    billRounding (t .tax * (t .amount + t .risks * t .conversion * clamp (t .minimum) (t .maximum) a)) (10000000 * t .risks)
-
--- bounds within which n bills are computed and put into `room` bytes
-pub record BillsBounds (n : ℕ) (t : BillTerms) (room : ℕ) : Type 0 where
-  pub risks : t .risks ≡ n
-  pub some : 0 < n
-  pub few : n ≤ 255
-  pub conversion : t .conversion ≤ 2000
-  pub tax : t .tax ≤ 20000
-  pub inner : (k : ℕ) → k ≤ t .maximum → t .amount + n * t .conversion * k ≤ 859831500000 * n
-  pub enough : 4 * n ≤ room
 
 -- what Rate gives beside the premiums: n, M, Q and the sum billed
 pub record Figures : Type 0 where

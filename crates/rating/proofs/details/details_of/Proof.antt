@@ -1,56 +1,113 @@
--- `rating::details::details_of` meets its contract: L and A from the walk, K from them and the file's LG and LH. Assumes nothing.
-use mathlib.Core.Path.{_≡_, sym, ap, ap₂, _∙_}
+-- L and A from the walk, K from them and the file's LG and LH; of a refused file no K. Assumes nothing.
+use mathlib.Core.Path.{_≡_, refl, sym, ap, ap₂, _∙_}
 use mathlib.Core.List.{List, map, map-map}
-use Prim.Native.Nat.{ℕ}
+use Prim.Native.Nat.{ℕ, _≤_}
 use native.Mathlib.Omega.{arith}
 use borrow.Author.Needs.{needs}
 use lib.ListN.{take}
-use Rattle.plan.specs.Header.{headerOf, riskCount}
+use Rattle.plan.specs.Header.{headerOf}
 use Rattle.plan.specs.Losses.{Losses, lossesIn}
 use Rattle.plan.specs.Marks.{LG, LH}
 use Rattle.plan.specs.Ratable.{clamp, ratable}
-use Rattle.plan.proofs.Sizes.{risks-le}
-use Rattle.rating.specs.Gates.{TermsAre}
-use Rattle.rating.specs.declared.gates.Terms.{Terms}
-use Rattle.rating.proofs.Group.{limitedsOf}
+use Rattle.plan.specs.Premium as plan
+use Rattle.plan.specs.Premium.{termsOf}
+use Rattle.plan.specs.Questions.{Verdict, firstNo, ratingQuestions}
+use Rattle.plan.specs.Calls.{answer}
+use Rattle.plan.proofs.Questions.{refused-failed}
+use Rattle.group.specs.Values.{firstOf, LossesAre}
+use Rattle.group.specs.declared.GroupLosses.{GroupLosses}
+use Rattle.group.proofs.Losses.{limiteds-length, limiteds-enough}
+use Rattle.steps.specs.Terms.{termsIs, balancedIs}
+use Rattle.steps.specs.declared.bill.Terms.{Terms}
+use Rattle.steps.specs.declared.balance.Balanced.the-variants.{Given, Refused}
+use Rattle.rating.specs.Details.{ratablesAfter}
+use Rattle.rating.proofs.Answers.{passes, terms-are, terms-within, group-few, risks-are, first-limiteds}
 use Rattle.rating.proofs.details.details_of.Statement.{statement}
 use Rattle.rating.proofs.details.details_of.Tie as tie
 
+-- ---- the places of the code
+
+abbrev file : tie.After-open-rating → List ℕ
+file o = o .before .before .args .file .now
+
+-- past question 12, with the terms
+abbrev opened : tie.After-limiteds2 → tie.After-open-rating
+opened p = p .before .before .before .before .before .before
+
+abbrev terms : tie.After-limiteds2 → Terms
+terms p = p .before .before .balanced2 .given .0 .0
+
+gave : (p : tie.After-limiteds2)
+    → let s = file (opened p) in
+    balancedIs (Given (terms p)) ≡ answer (firstNo (ratingQuestions s)) (termsOf (headerOf s) (lossesIn s))
+gave p =
+    let o = opened p in
+    let e : o .open-rating .result .balanced ≡ Given (terms p) = cc in
+    sym (ap balancedIs e) ∙ o .open-rating .ensures .balanced
+
 -- clamped by the file's own marks, the limited losses are the ratable ones
-ratables-are : (s : List ℕ) (t : Terms) → TermsAre s t
-    → map (clamp (t .minimum) (t .maximum)) (limitedsOf s) ≡ map (ratable (headerOf s) (lossesIn s)) (lossesIn s)
+ratables-are : (s : List ℕ) {t : Terms} {g : GroupLosses}
+    (gave : balancedIs (Given t) ≡ answer (firstNo (ratingQuestions s)) (termsOf (headerOf s) (lossesIn s)))
+    → LossesAre (lossesIn s) g
+    → map (clamp (t .minimum) (t .maximum)) (take (t .risks) (g .limiteds)) ≡ map (ratable (headerOf s) (lossesIn s)) (lossesIn s)
 unfolding ratable
-ratables-are s t is =
-    ap₂ (λ (low high : ℕ). map (clamp low high) (limitedsOf s)) (is .minimum) (is .maximum)
+ratables-are s gave losses =
+    (λ i. map (clamp (terms-are s gave i .minimum) (terms-are s gave i .maximum)) (first-limiteds s gave losses i))
     ∙ map-map (clamp (LH (headerOf s) (lossesIn s)) (LG (headerOf s) (lossesIn s))) (λ (r : Losses). r .limited) (lossesIn s)
+
+-- ---- the needs
 
 open-rating-requires : tie.Need-open-rating-requires
 open-rating-requires c κs = search needs
 
+enum-known-balanced : tie.Need-enum-known-balanced
+enum-known-balanced c = search needs
+
+enum-known-balanced-2 : tie.Need-enum-known-balanced-2
+enum-known-balanced-2 c = search needs
+
+slice-aggregate-ratables-of : tie.Need-slice-aggregate-ratables-of
+slice-aggregate-ratables-of c = search needs
+
 ratables-of-requires : tie.Need-ratables-of-requires
 ratables-of-requires c κs =
-    let o = c .before .before .before .before .before in
-    omega (arith, o .open-rating .ensures .head .risks, risks-le (o .before .before .args .file .now))
+    let s = file (opened c) in
+    let g = opened c .open-rating .ensures .losses in
+    (terms-within s (gave c) .few, omega (arith, limiteds-enough g (group-few s (gave c)), g .risks, risks-are s (gave c)))
 
 returns : tie.Need-returns
 returns c =
-    let o = c .before .before .before .before .before .before in
-    let s = o .before .before .args .file .now in
-    let r = o .open-rating .result in
-    let x = o .open-rating .ensures in
-    let n = x .head .risks in
+    let o = c .before .before .before .before .before in
+    let s = file o in
+    let e : o .open-rating .result .balanced ≡ Refused (c .before .balanced .given .0 .0) = cc in
+    let f = refused-failed (firstNo (ratingQuestions s)) (termsOf (headerOf s) (lossesIn s)) (sym (o .open-rating .ensures .balanced) ∙ ap balancedIs e) in
     record {
-      verdict = x .verdict;
-      risks = n;
-      totals = x .losses .totals;
-      limiteds = x .losses .limiteds;
-      ratables = λ p.
-          ap (λ (k : ℕ). take k (c .ratables-of .result)) (sym n)
-          ∙ c .ratables-of .ensures
-          ∙ ap (map (clamp (r .terms .minimum) (r .terms .maximum)))
-          (ap (λ (k : ℕ). take k (r .losses .limiteds)) n ∙ x .losses .limiteds)
-          ∙ ratables-are s (r .terms) (x .terms p);
+      losses = o .open-rating .ensures .losses;
+      ratables = sym (ap (λ (v : Verdict). firstOf (ratablesAfter v s)) f);
+    }
+
+returns-2 : tie.Need-returns-2
+returns-2 c =
+    let p = c .before in
+    let o = opened p in
+    let s = file o in
+    let g = o .open-rating .ensures .losses in
+    record {
+      losses = g;
+      ratables =
+          c .ratables-of .ensures
+          ∙ ap firstOf (ratables-are s (gave p) g)
+          ∙ sym (ap (λ (v : Verdict). firstOf (ratablesAfter v s)) (passes s (gave p)));
     }
 
 pub details-of-spec : {M : Type 1} → statement M
-details-of-spec = tie.close (tie.spec open-rating-requires ratables-of-requires returns)
+details-of-spec =
+    tie.close
+    (tie.spec
+    open-rating-requires
+    enum-known-balanced
+    enum-known-balanced-2
+    slice-aggregate-ratables-of
+    ratables-of-requires
+    returns
+    returns-2)

@@ -1,54 +1,62 @@
--- `rating::rates::rate` meets its contract: questions 1 to 12, then 13, then the bills of the file's group, of which demand 3
--- holds. Assumes nothing.
-use mathlib.Core.Path.{_≡_, sym, ap, _∙_}
+-- Questions 1 to 12, then 13, then the bills of the file's group, of which demand 3 holds. Assumes nothing.
+use mathlib.Core.Path.{_≡_, refl, sym, ap, _∙_}
 use mathlib.Core.List.{List}
-use Prim.Native.Nat.{ℕ, _*_, _≤_}
+use Prim.Native.Nat.{ℕ, _*_, _≤_, _<_}
 use native.Mathlib.Omega.{arith}
 use borrow.Author.Needs.{needs}
-use lib.ListN.{length, take}
-use Rattle.plan.specs.Questions.{passed, firstNo, ratingQuestions}
-use Rattle.groupfile.specs.Values.{verdictIs}
-use Rattle.groupfile.specs.declared.header.Verdict.the-variants.{Passed, Failed}
-use Rattle.rating.specs.Gates.{TermsAre}
-use Rattle.rating.proofs.Group.{limitedsOf}
-use Rattle.rating.proofs.RateAnswers.{refused-says, gate-failed, little-room, amount-fits, bills-bounds, given-says, demanded}
+use borrow.Author.Tests.{lt-leb}
+use lib.ListN.{length}
+use Rattle.plan.specs.Header.{headerOf, riskCount}
+use Rattle.plan.specs.Losses.{lossesIn}
+use Rattle.plan.specs.Premium.{termsOf}
+use Rattle.plan.specs.Questions.{firstNo, ratingQuestions}
+use Rattle.plan.specs.Calls.{answer}
+use Rattle.plan.proofs.Questions.{refused-failed}
+use Rattle.group.proofs.Losses.{limiteds-enough}
+use Rattle.steps.specs.Terms.{balancedIs}
+use Rattle.steps.specs.declared.bill.Terms.{Terms}
+use Rattle.steps.specs.declared.balance.Balanced.the-variants.{Given, Refused}
+use Rattle.rating.proofs.Answers.{verdict, refused-says, passes, terms-within, group-few, risks-are, risk-count, given-says, demanded}
 use Rattle.rating.proofs.rates.rate.Statement.{statement}
 use Rattle.rating.proofs.rates.rate.Tie as tie
+
+-- ---- the places of the code
+
+abbrev start : tie.After-open-rating → tie.Start
+start o = o .before .before .before
+
+abbrev file : tie.After-open-rating → List ℕ
+file o = start o .args .file .now
+
+-- past question 12, with the terms
+abbrev opened : tie.After-struct-known → tie.After-open-rating
+opened p = p .before .before .before .before
+
+abbrev terms : tie.After-struct-known → Terms
+terms p = p .before .before .balanced2 .given .0 .0
+
+-- past question 13
+abbrev room-for : tie.After-put-bills-arg3 → tie.Else1
+room-for c = c .before .before .before .before
+
+gave : (p : tie.After-struct-known)
+    → let s = file (opened p) in
+    balancedIs (Given (terms p)) ≡ answer (firstNo (ratingQuestions s)) (termsOf (headerOf s) (lossesIn s))
+gave p =
+    let o = opened p in
+    let e : o .open-rating .result .balanced ≡ Given (terms p) = cc in
+    sym (ap balancedIs e) ∙ o .open-rating .ensures .balanced
+
+-- ---- the needs
 
 open-rating-requires : tie.Need-open-rating-requires
 open-rating-requires c κs = search needs
 
-enum-known-verdict : tie.Need-enum-known-verdict
-enum-known-verdict c = search needs
+enum-known-balanced : tie.Need-enum-known-balanced
+enum-known-balanced c = search needs
 
-enum-told : tie.Need-enum-told
-enum-told c = search needs
-
--- questions 1 to 12 passed
-passes : (c : tie.After-enum-told)
-    → let o = c .before .before .before .before .before in
-    firstNo (ratingQuestions (o .before .before .before .args .file .now)) ≡ passed
-passes c =
-    let o = c .before .before .before .before .before in
-    let e : o .open-rating .result .verdict ≡ Passed = cc in
-    sym (o .open-rating .ensures .verdict) ∙ ap verdictIs e
-
--- so the terms are the file's
-terms-are : (c : tie.After-enum-told)
-    → let o = c .before .before .before .before .before in
-    TermsAre (o .before .before .before .args .file .now) (o .open-rating .result .terms)
-terms-are c =
-    let o = c .before .before .before .before .before in
-    let e : o .open-rating .result .verdict ≡ Passed = cc in
-    o .open-rating .ensures .terms (ap verdictIs e)
-
--- the limited losses handed on are the group's
-each : (c : tie.After-open-rating)
-    → let r = c .open-rating .result in
-    take (r .head .risks) (r .losses .limiteds) ≡ limitedsOf (c .before .before .before .args .file .now)
-each c =
-    let r = c .open-rating .result in
-    ap (λ (n : ℕ). take n (r .losses .limiteds)) (c .open-rating .ensures .head .risks) ∙ c .open-rating .ensures .losses .limiteds
+enum-known-balanced-2 : tie.Need-enum-known-balanced-2
+enum-known-balanced-2 c = search needs
 
 cast-if1 : tie.Need-cast-if1
 cast-if1 c = search needs
@@ -58,63 +66,51 @@ mul-if1 c = search needs
 
 returns : tie.Need-returns
 returns c =
-    let o = c .before .before .before .before .before .before in
-    let a = o .before .before .before .args in
-    let few = little-room (a .file .now) (a .premiums .now) (passes (c .before)) (omega (arith, c .if1 .taken, o .open-rating .ensures .head .risks)) in
-    (refused-says (a .file .now) (a .premiums .now) 13 few, tt)
-
-amount-of-requires : tie.Need-amount-of-requires
-amount-of-requires c κs =
-    let t = c .before .before .before in
-    let o = t .before .before .before .before .before in
-    let h = o .open-rating .ensures .head in
-    amount-fits (o .before .before .before .args .file .now) (passes t) (h .risks) (h .values) (terms-are t) (each o)
-
-cast-t20 : tie.Need-cast-t20
-cast-t20 c = search needs
-
-cast-t21 : tie.Need-cast-t21
-cast-t21 c = search needs
-
-cast-t22 : tie.Need-cast-t22
-cast-t22 c = search needs
+    let p = c .before in
+    let a = start (opened p) .args in
+    let few : length (a .premiums .now) < 4 * riskCount (a .file .now) = omega (arith, c .if1 .taken, risk-count (a .file .now) (gave p)) in (
+      refused-says (a .file .now) (a .premiums .now)
+          (verdict (a .file .now) (a .premiums .now) (passes (a .file .now) (gave p)) (lt-leb _ _ few)),
+      tt,
+    )
 
 put-bills-requires : tie.Need-put-bills-requires
 put-bills-requires c κs =
-    let m = c .before .before .before in
-    let e = m .before .before .before in
-    let t = e .before in
-    let o = t .before .before .before .before .before in
-    let h = o .open-rating .ensures .head in
-    bills-bounds (o .before .before .before .args .file .now) (passes t) (h .risks) (h .values) (terms-are t) (each o)
-    (m .amount-of .ensures) _ (e .if1 .left)
+    let r = room-for c in
+    let p = r .before in
+    let s = file (opened p) in
+    let g = opened p .open-rating .ensures .losses in
+    let b = terms-within s (gave p) in
+    record {
+      bounds = b;
+      each = omega (arith, limiteds-enough g (group-few s (gave p)), g .risks, risks-are s (gave p));
+      enough = r .if1 .left;
+    }
 
 returns-2 : tie.Need-returns-2
 returns-2 c =
-    let o = c .before .before .before .before .before .before in
-    let a = o .before .before .before .args in
-    let e : o .open-rating .result .verdict ≡ Failed (c .before .verdict .given .0 .0) = cc in
-    let refusal = gate-failed (a .file .now) (a .premiums .now) (sym (o .open-rating .ensures .verdict) ∙ ap verdictIs e) in
-    (refused-says (a .file .now) (a .premiums .now) _ refusal, tt)
+    let o = c .before .before .before in
+    let a = start o .args in
+    let s = a .file .now in
+    let e : o .open-rating .result .balanced ≡ Refused (c .before .balanced .given .0 .0) = cc in
+    let f = refused-failed (firstNo (ratingQuestions s)) (termsOf (headerOf s) (lossesIn s)) (sym (o .open-rating .ensures .balanced) ∙ ap balancedIs e) in
+    (refused-says s (a .premiums .now) (verdict s (a .premiums .now) f refl), tt)
 
 same-length : tie.Need-same-length
 same-length c = search needs
 
 returns-3 : tie.Need-returns-3
 returns-3 c =
-    let p = c .before .before in
-    let m = p .before .before .before .before in
-    let e = m .before .before .before in
-    let t = e .before in
-    let o = t .before .before .before .before .before in
-    let h = o .open-rating .ensures .head in
-    let a = o .before .before .before .args in
+    let d = c .before .before in
+    let r = room-for (d .before) in
+    let p = r .before in
+    let a = start (opened p) .args in
     let s = a .file .now in
-    let x = p .put-bills .ensures in (
-      given-says s (passes t) (h .risks) (h .values) (terms-are t) (each o) (m .amount-of .ensures) (a .premiums .now) _
-          (e .if1 .left) (x .0) (x .1),
-      demanded s (passes t) (h .risks) (h .values) (terms-are t) (each o) (m .amount-of .ensures) (a .premiums .now) _
-          (e .if1 .left) (x .0) (x .1),
+    let g = opened p .open-rating .ensures .losses in
+    let room = r .if1 .left in
+    let x = d .put-bills .ensures in (
+      given-says s (gave p) g (a .premiums .now) _ room (x .0) (x .1),
+      demanded s (gave p) g (a .premiums .now) _ room (x .0) (x .1),
     )
 
 pub rate-spec : {M : Type 1} → statement M
@@ -122,15 +118,11 @@ rate-spec =
     tie.close
     (tie.spec
     open-rating-requires
-    enum-known-verdict
-    enum-told
+    enum-known-balanced
+    enum-known-balanced-2
     cast-if1
     mul-if1
     returns
-    amount-of-requires
-    cast-t20
-    cast-t21
-    cast-t22
     put-bills-requires
     returns-2
     same-length

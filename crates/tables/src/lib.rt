@@ -3,10 +3,13 @@ ghost use mathlib.Core.Path.{_≡_};
 ghost use Prim.Native.Nat.{_*_};
 ghost use Rattle.plan.specs.Arithmetic.{nearest};
 ghost use Rattle.plan.specs.Calls as plan;
-ghost use Rattle.rating.specs.Tables.{ThousandthsBounds, ratiosAre};
-use crate::gates::open_losses;
-use crate::steps::spread_of;
-use groupfile::header::Verdict;
+ghost use Rattle.tables.specs.Tables.{ThousandthsBounds, ratiosAre};
+use gates::open_losses;
+use group::Verdict;
+use steps::spread::spread_of;
+
+// The largest entry ratio, in hundredths.
+pub const MOST_RATIO: u32 = 600;
 
 // Charge and savings, in thousandths.
 pub struct Ratios {
@@ -34,19 +37,16 @@ pub fn table(file: &[u8], r: u32) -> Tabled
 {
     let opened = open_losses(file);
     let verdict = opened.verdict;
-    let head = opened.head;
-    let losses = opened.losses;
     match verdict {
         Verdict::Failed(k) => Tabled::Refused(k),
         Verdict::Passed => {
-            if r > 600 {
+            if r > MOST_RATIO {
                 return Tabled::Refused(14);
             }
-            let n = head.risks;
-            let limited = losses.limited;
-            let limiteds = losses.limiteds;
+            let n = opened.losses.risks;
+            let limited = opened.losses.limited;
             let mark = r as u64 * limited;
-            let sums = spread_of(limiteds, n, 100 * n as u64, mark, mark);
+            let sums = spread_of(&opened.losses.limiteds, n, 100 * n as u64, mark, mark);
             let half = 50 * n as u64 * limited;
             let divisor = 2 * half;
             let charge = thousandths_of(sums.above, half, divisor);

@@ -1,4 +1,4 @@
--- `rating::tables::thousandths_of` meets its contract: the divisor is even, so adding its half before dividing is the nearest.
+-- The divisor is even, so adding its half before dividing is the nearest.
 -- Assumes nothing.
 use mathlib.Core.Path.{_≡_, sym, ap, _∙_}
 use Prim.Native.Nat.{ℕ, _+_, _*_, _/_, _≤_}
@@ -7,8 +7,8 @@ use native.Mathlib.Omega.{arith}
 use borrow.Author.Needs.{needs}
 use Rattle.plan.specs.Arithmetic.{nearest}
 use Rattle.plan.proofs.Rounding.{nearest-even}
-use Rattle.rating.proofs.tables.thousandths_of.Statement.{statement}
-use Rattle.rating.proofs.tables.thousandths_of.Tie as tie
+use Rattle.tables.proofs.thousandths_of.Statement.{statement}
+use Rattle.tables.proofs.thousandths_of.Tie as tie
 
 mul-result : tie.Need-mul-result
 mul-result c = search needs

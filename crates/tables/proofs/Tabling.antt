@@ -1,61 +1,60 @@
--- Table's numbers as the code has them are those of the file's group: the numerators, the divisor, and the bounds within which
--- they are computed. Assumes nothing.
-use mathlib.Core.Path.{_≡_, refl, sym, ap, ap₂, _∙_, subst, subst₂}
+-- Table's answer from the verdict of its questions; and its numbers as the code has them are those of the file's group: the
+-- numerators, the divisor, and the bounds within which they are computed. Assumes nothing.
+use mathlib.Core.Path.{_≡_, refl, sym, ap, ap₂, _∙_}
+use mathlib.Core.Bool.{Bool}
 use mathlib.Core.List.{List, [], _∷_, map}
 use Prim.Native.Nat.{ℕ, _+_, _*_, _^_, _≤_, _<_}
 use native.Mathlib.Nat.{mul-le-mul, mul-pos}
 use native.Mathlib.Omega.{arith}
-use borrow.Author.Tests.{leb-true, le-leb, lt-leb}
+use lib.Dec.{leb}
 use lib.ListN.{length}
 use Rattle.plan.specs.Arithmetic.{sumOf, above, below, nearest}
-use Rattle.plan.specs.Header.{headerOf, riskCount}
+use Rattle.plan.specs.Sizes.{mostRisks, mostGroupLosses, mostRatio}
+use Rattle.plan.specs.Header.{headerOf}
 use Rattle.plan.specs.Losses.{Losses, lossesIn, SA}
-use Rattle.plan.specs.Questions.{Verdict, passed, failed, firstNo, lossQuestions, question14}
+use Rattle.plan.specs.Questions.{ask, Verdict, passed, failed, firstNo, orElse, lossQuestions, question14, tableQuestions}
 use Rattle.plan.specs.Table.{chargeSum, savingsSum, charge, savings}
-use Rattle.plan.specs.Calls.{Answer, refused, given, Tabled, table}
+use Rattle.plan.specs.Bounds.{GroupBounds}
+use Rattle.plan.specs.Calls.{Answer, answer, Tabled, table}
 use Rattle.plan.proofs.Sums.{sum-map}
-use Rattle.plan.proofs.Questions.{yes-to, loss-file, file-sound, gate-refuses, last-refuses, last-gives}
-use Rattle.plan.proofs.Sizes.{GroupBounds, group-bounds, length-losses, charge-le, savings-le, charge-lt, savings-lt}
-use Rattle.rating.specs.Tables.{ThousandthsBounds}
-use Rattle.rating.proofs.Group.{limitedsOf}
+use Rattle.plan.proofs.Questions.{after-gate, answered, loss-sound}
+use Rattle.plan.proofs.FileSizes.{group-bounds}
+use Rattle.plan.proofs.TableSizes.{losses-le, charge-le, savings-le, charge-lt, savings-lt}
+use Rattle.tables.specs.Tables.{ThousandthsBounds}
 
 -- ---- the answer
 
 module _ (s : List ℕ) (r : ℕ) where
-  abbrev ratios : Tabled
+  abbrev pub ratios : Tabled
   ratios = record { charge = charge (lossesIn s) r; savings = savings (lossesIn s) r }
 
-  pub gate-failed : {k : ℕ} → firstNo (lossQuestions s) ≡ failed k → refused k ≡ table s r
+  -- the gate's No, else that of 14
+  pub tabled : {v : Verdict} {b : Bool} → firstNo (lossQuestions s) ≡ v → leb r mostRatio ≡ b
+      → answer (orElse v (firstNo (ask 14 b ∷ []))) ratios ≡ table s r
   unfolding table
-  gate-failed e = sym (gate-refuses (lossQuestions s) (question14 r ∷ []) ratios e)
-
-  pub ratio-too-large : firstNo (lossQuestions s) ≡ passed → 600 < r → refused 14 ≡ table s r
-  unfolding table
-  ratio-too-large e h = sym (last-refuses (lossQuestions s) 14 ratios e (lt-leb _ _ h))
-
-  pub tabled : firstNo (lossQuestions s) ≡ passed → r ≤ 600 → given ratios ≡ table s r
-  unfolding table
-  tabled e h = sym (last-gives (lossQuestions s) 14 ratios e (le-leb _ _ h))
+  tabled {v} e f =
+      sym (answered ratios
+      (after-gate (lossQuestions s) (question14 r ∷ []) e ∙ ap (λ (b : Bool). orElse v (firstNo (ask 14 b ∷ []))) f))
 
 -- ---- the numbers, of n risks with limited losses sa in all
 
 -- what the code has at hand once questions 1 to 10 and 14 have passed
 pub record AtHand (s : List ℕ) (r n sa : ℕ) (limiteds : List ℕ) : Type 0 where
   pub passes : firstNo (lossQuestions s) ≡ passed
-  pub ratio : r ≤ 600
-  pub n-is : n ≡ riskCount s
+  pub ratio : r ≤ mostRatio
+  pub n-is : n ≡ length (lossesIn s)
   pub sa-is : sa ≡ SA (lossesIn s)
-  pub each : limiteds ≡ limitedsOf s
+  pub each : limiteds ≡ map (λ x. x .limited) (lossesIn s)
 
 module _ {s : List ℕ} {r n sa : ℕ} {limiteds : List ℕ} (x : AtHand s r n sa limiteds) where
   bounds : GroupBounds (headerOf s) (lossesIn s)
-  bounds = group-bounds s (file-sound s (loss-file s (x .passes)))
+  bounds = group-bounds s (loss-sound s (x .passes) .file)
 
   count : n ≡ length (lossesIn s)
-  count = x .n-is ∙ sym (length-losses s)
+  count = x .n-is
 
   some : 1 ≤ SA (lossesIn s)
-  some = leb-true _ _ (yes-to 10 (lossQuestions s) refl (x .passes))
+  some = loss-sound s (x .passes) .some
 
   half-is : 50 * n * sa ≡ 50 * length (lossesIn s) * SA (lossesIn s)
   half-is = ap₂ (λ (x y : ℕ). 50 * x * y) count (x .sa-is)
@@ -63,12 +62,12 @@ module _ {s : List ℕ} {r n sa : ℕ} {limiteds : List ℕ} (x : AtHand s r n s
   divisor-is : 2 * (50 * n * sa) ≡ 100 * length (lossesIn s) * SA (lossesIn s)
   divisor-is = omega (arith, half-is)
 
-  pub risks-few : n ≤ 255
+  pub risks-few : n ≤ mostRisks
   risks-few = omega (arith, count, bounds .risks)
 
   pub mark-fits : r * sa < 2 ^ 44
   mark-fits =
-      let most : sa ≤ 16845357375 = omega (arith, x .sa-is, bounds .limited, bounds .total, bounds .risks) in
+      let most : sa ≤ mostGroupLosses = omega (arith, x .sa-is, losses-le (headerOf s) (lossesIn s) bounds r (x .ratio)) in
       omega (arith, mul-le-mul (x .ratio) most)
 
   pub half-fits : 2 * (50 * n * sa) < 2 ^ 64

@@ -2,8 +2,8 @@
 use mathlib.Core.Path.{_≡_}
 use Prim.Native.Nat.{ℕ, _+_, _*_, _^_, _≤_, _<_}
 use Rattle.plan.specs.Calls as plan
-use Rattle.rating.specs.declared.tables.Tabled.{Tabled}
-use Rattle.rating.specs.declared.tables.Tabled.the-variants as answers
+use Rattle.tables.specs.declared.Tabled.{Tabled}
+use Rattle.tables.specs.declared.Tabled.the-variants as answers
 
 -- a ratio x ÷ divisor of at most 6, whose thousandths are computed in 64 bits
 pub record ThousandthsBounds (x half divisor : ℕ) : Type 0 where

@@ -1,0 +1,2 @@
+-- What the functions of Table ask for and give.
+pub mod Tables
