@@ -4,11 +4,13 @@
 ghost use Prim.Native.Nat.{_≤_};
 ghost use lib.ListN.{length};
 use bits::BitPlace;
+use group::LARGEST_FILE;
+use group::MOST_RISKS;
 use libc::STDIN_FILENO;
 use libc::STDOUT_FILENO;
 use rating::details::Details;
 use rating::details::details_of;
-use rating::rates::Figures;
+use rating::rates::GroupFigures;
 use rating::rates::Rated;
 use rating::rates::rate;
 
@@ -23,7 +25,7 @@ fn print_newline() {
 }
 
 // The word, n, M, Q and the sum billed.
-fn print_group(g: Figures) {
+fn print_group(g: GroupFigures) {
     io::write_all(STDOUT_FILENO, b"group");
     print_next(g.risks as u64);
     print_next(g.basic);
@@ -44,10 +46,11 @@ fn print_risk(number: u64, total: u32, limited: u32, ratable: u32, premium: u32)
 
 // A line for each of the n risks, of which there are 255 at most.
 fn print_risks(d: Details, premiums: &[u8], n: usize) {
-    let totals = d.totals;
-    let limiteds = d.limiteds;
+    let losses = d.losses;
+    let totals = losses.totals;
+    let limiteds = losses.limiteds;
     let ratables = d.ratables;
-    for i in 0..255usize {
+    for i in 0..MOST_RISKS {
         if i < n {
             let premium = BitPlace { at: 32 * i }.take(premiums, 32);
             print_risk(
@@ -79,8 +82,8 @@ fn report(file: &[u8], premiums: &mut [u8]) {
 }
 
 fn main() {
-    let mut input = [0u8; 40371];
-    let mut premiums = [0u8; 1020];
+    let mut input = [0u8; LARGEST_FILE + 1];
+    let mut premiums = [0u8; 4 * MOST_RISKS];
     let n = io::read_full(STDIN_FILENO, &mut input);
     report(&input[..n], &mut premiums);
 }

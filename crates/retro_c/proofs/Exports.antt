@@ -10,19 +10,19 @@ use Rattle.plan.specs.Demand3.{Demand3}
 use Rattle.plan.specs.Calls.{Answer, refused, given, giving, numberAfter, bufferAfter, Rated, rate, Demand3After, Tabled, table}
 use Rattle.plan.specs.Calls.{Group, read, write}
 use Rattle.plan.proofs.Answers.{Gave, giving-refused, giving-given}
-use Rattle.groupfile.specs.Values.{headerIs}
-use Rattle.groupfile.specs.Read.{Heading, headingOf, headingIs, ReadSays}
-use Rattle.groupfile.specs.Write.{lengthIs, WriteSays}
-use Rattle.groupfile.specs.declared.reader.Heading as reading
-use Rattle.groupfile.specs.declared.reader.GroupRead.the-variants as reads
-use Rattle.groupfile.specs.declared.writer.Written.the-variants as writes
+use Rattle.group.specs.Values.{headerIs}
+use Rattle.reading.specs.Reading.{RisksAndHeader, risksAndHeader, ReadSays}
+use Rattle.writing.specs.Writer.{lengthIs, WriteSays}
+use Rattle.reading.specs.declared.ReadValues as reading
+use Rattle.reading.specs.declared.GroupRead.the-variants as reads
+use Rattle.writing.specs.declared.writer.Written.the-variants as writes
 use Rattle.rating.specs.Rates.{Figures, figuresOf, figuresAre, RateSays, Demanded}
-use Rattle.rating.specs.Tables.{ratiosAre}
-use Rattle.rating.specs.declared.rates.Figures as rating
-use Rattle.rating.specs.declared.tables.Ratios as tabling
+use Rattle.tables.specs.Tables.{ratiosAre}
+use Rattle.rating.specs.declared.rates.GroupFigures as rating
+use Rattle.tables.specs.declared.Ratios as tabling
 use Rattle.rating.specs.declared.rates.Rated.the-variants as rates
-use Rattle.rating.specs.declared.tables.Tabled.the-variants as tables
-use Rattle.retro_c.specs.Exported.{codeOf, Numbers, numbers, BasicAfter, RateExported, TableExported, GroupIs, ReadExported}
+use Rattle.tables.specs.declared.Tabled.the-variants as tables
+use Rattle.retro_c.specs.Exported.{codeOf, Numbers, numbers, BasicAfter, RateExported, TableExported, RetroGroupIs, ReadExported}
 use Rattle.retro_c.specs.Exported.{WriteExported}
 use Rattle.retro_c.specs.declared.RetroGroup.{RetroGroup}
 
@@ -49,7 +49,7 @@ module _ (s old new : List ℕ) where
   none-demanded k m q b x =
       subst (λ (a : Answer Rated). Demand3After a s m q b new) (sym (giving-refused figuresOf rated (x .answer))) tt
 
-  module _ (g : rating.Figures) (x : RateSays s old (rates.Given g) new) where
+  module _ (g : rating.GroupFigures) (x : RateSays s old (rates.Given g) new) where
     gave : Gave figuresOf rated (record { risks = g .risks; basic = pos (g .basic); excess = g .excess; billed = g .billed })
     gave = giving-given figuresOf rated (x .answer)
 
@@ -93,7 +93,7 @@ module _ (s : List ℕ) (r : ℕ) where
 
 -- ---- Read
 
--- the ten numbers of a refusal, and of a heading
+-- the ten numbers of a refusal, and of n and the header values
 abbrev pub refusal : ℕ → RetroGroup
 refusal k = record {
   refused = k;
@@ -108,8 +108,8 @@ refusal k = record {
   «minimum_mark» = 0;
 }
 
-abbrev pub heading : ℕ → plan.Header → RetroGroup
-heading n h = record {
+abbrev pub accepted : ℕ → plan.Header → RetroGroup
+accepted n h = record {
   refused = 0;
   risks = n;
   «loss_limit» = h .lossLimit;
@@ -129,19 +129,19 @@ module _ (s oldCounts oldClaims counts claims : List ℕ) where
   pub read-refused : (k : ℕ) → ReadSays s oldCounts oldClaims (reads.Refused k) counts claims
       → ReadExported s oldCounts oldClaims (refusal k) counts claims
   read-refused k x = record {
-    group-is = subst (λ (a : Answer Group). GroupIs a (refusal k)) (sym (giving-refused headingOf was-read (x .answer))) refl;
+    group-is = subst (λ (a : Answer Group). RetroGroupIs a (refusal k)) (sym (giving-refused risksAndHeader was-read (x .answer))) refl;
     counts-are = x .counts-after;
     claims-are = x .claims-after;
   }
 
-  pub read-given : (h : reading.Heading) → ReadSays s oldCounts oldClaims (reads.Given h) counts claims
-      → ReadExported s oldCounts oldClaims (heading (h .risks) (headerIs (h .values))) counts claims
-  read-given h x =
-      let gave = giving-given headingOf was-read (x .answer) in
+  pub read-given : (v : reading.ReadValues) → ReadSays s oldCounts oldClaims (reads.Given v) counts claims
+      → ReadExported s oldCounts oldClaims (accepted (v .risks) (headerIs (v .header))) counts claims
+  read-given v x =
+      let gave = giving-given risksAndHeader was-read (x .answer) in
       record {
         group-is =
-            subst (λ (a : Answer Group). GroupIs a (heading (h .risks) (headerIs (h .values)))) (sym (gave .is))
-            (λ i. heading (sym (gave .part) i .risks) (sym (gave .part) i .header));
+            subst (λ (a : Answer Group). RetroGroupIs a (accepted (v .risks) (headerIs (v .header)))) (sym (gave .is))
+            (λ i. accepted (sym (gave .part) i .risks) (sym (gave .part) i .header));
         counts-are = x .counts-after;
         claims-are = x .claims-after;
       }
@@ -154,7 +154,7 @@ module _ (g : Group) (old new : List ℕ) where
       let e = giving-refused length (write g (length old)) (x .answer) in
       record {
         code-is = sym (ap codeOf e);
-        length-is = sym (ap (λ (a : Answer (List ℕ)). numberAfter length a lent) e);
+        size-is = sym (ap (λ (a : Answer (List ℕ)). numberAfter length a lent) e);
         buffer-is = x .buffer;
       }
 
@@ -163,6 +163,6 @@ module _ (g : Group) (old new : List ℕ) where
       let gave = giving-given length (write g (length old)) (x .answer) in
       record {
         code-is = sym (ap codeOf (gave .is));
-        length-is = sym (ap (λ (a : Answer (List ℕ)). numberAfter length a lent) (gave .is) ∙ gave .part);
+        size-is = sym (ap (λ (a : Answer (List ℕ)). numberAfter length a lent) (gave .is) ∙ gave .part);
         buffer-is = x .buffer;
       }

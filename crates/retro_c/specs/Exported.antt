@@ -45,8 +45,8 @@ pub record TableExported (s : List ℕ) (r code charge charge′ savings savings
   pub savings-is : savings′ ≡ numberAfter (λ t. t .savings) (table s r) savings
 
 -- the ten numbers of Read's answer
-abbrev pub GroupIs : Answer Group → RetroGroup → Type 0
-GroupIs (refused k) r =
+abbrev pub RetroGroupIs : Answer Group → RetroGroup → Type 0
+RetroGroupIs (refused k) r =
     r
     ≡ record {
       refused = k;
@@ -60,7 +60,7 @@ GroupIs (refused k) r =
       «maximum_mark» = 0;
       «minimum_mark» = 0;
     }
-GroupIs (given g) r =
+RetroGroupIs (given g) r =
     r
     ≡ record {
       refused = 0;
@@ -77,12 +77,12 @@ GroupIs (given g) r =
 
 -- a call of retro_read on the file s with buffers that held `oldCounts` and `oldClaims`
 pub record ReadExported (s oldCounts oldClaims : List ℕ) (r : RetroGroup) (counts claims : List ℕ) : Type 0 where
-  pub group-is : GroupIs (read s (length oldCounts) (length oldClaims)) r
+  pub group-is : RetroGroupIs (read s (length oldCounts) (length oldClaims)) r
   pub counts-are : counts ≡ readCounts s oldCounts oldClaims
   pub claims-are : claims ≡ readClaims s oldCounts oldClaims
 
 -- a call of retro_write with the values g, a buffer that held `old` and a lent length
-pub record WriteExported (g : Group) (old : List ℕ) (code length₀ length₁ : ℕ) (new : List ℕ) : Type 0 where
+pub record WriteExported (g : Group) (old : List ℕ) (code oldSize newSize : ℕ) (new : List ℕ) : Type 0 where
   pub code-is : code ≡ codeOf (write g (length old))
-  pub length-is : length₁ ≡ writeLength g (length old) length₀
+  pub size-is : newSize ≡ writeLength g (length old) oldSize
   pub buffer-is : new ≡ writeBuffer g old

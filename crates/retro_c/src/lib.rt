@@ -3,13 +3,13 @@
 ghost use mathlib.Core.Path.{_≡_};
 ghost use lib.ListN.{length};
 ghost use Rattle.plan.specs.Calls.{rate, Demand3After};
-ghost use Rattle.groupfile.specs.Write.{groupOf};
+ghost use Rattle.writing.specs.Writer.{givenGroup};
 ghost use Rattle.retro_c.specs.Exported.{numbers, RateExported, TableExported, ReadExported, WriteExported};
-use groupfile::header::Header;
-use groupfile::reader::GroupRead;
-use groupfile::writer::Written;
+use group::Header;
 use rating::rates::Rated;
-use rating::tables::Tabled;
+use reading::GroupRead;
+use tables::Tabled;
+use writing::writer::Written;
 
 // Read's answer: 0 or the refusal, n, and the header values; where it is a refusal all else is 0.
 #[repr(C)]
@@ -72,7 +72,7 @@ pub extern "C" fn retro_table(
         (now (charge .entry)) (now (charge .exit)) (now (savings .entry)) (now (savings .exit))
         ⌝ }
 {
-    match rating::tables::table(file, entry_ratio) {
+    match tables::table(file, entry_ratio) {
         Tabled::Refused(k) => k,
         Tabled::Given(t) => {
             *charge = t.charge;
@@ -90,7 +90,7 @@ pub extern "C" fn retro_read(file: &[u8], counts: &mut [u8], claims: &mut [u32])
         (now (counts .exit)) (now (claims .exit))
         ⌝ }
 {
-    match groupfile::reader::read(file, counts, claims) {
+    match reading::read(file, counts, claims) {
         GroupRead::Refused(k) => RetroGroup {
             refused: k,
             risks: 0,
@@ -103,11 +103,11 @@ pub extern "C" fn retro_read(file: &[u8], counts: &mut [u8], claims: &mut [u32])
             maximum_mark: 0,
             minimum_mark: 0,
         },
-        GroupRead::Given(h) => {
-            let v = h.values;
+        GroupRead::Given(g) => {
+            let v = g.header;
             RetroGroup {
                 refused: 0,
-                risks: h.risks,
+                risks: g.risks,
                 loss_limit: v.loss_limit,
                 standard_premium: v.standard_premium,
                 expense: v.expense,
@@ -128,17 +128,17 @@ pub extern "C" fn retro_write(
     counts: &[u8],
     claims: &[u32],
     file: &mut [u8],
-    length: &mut usize,
+    size: &mut usize,
 ) -> u32
     ensures { λ code. ⌜
-        WriteExported (groupOf header (now (counts .entry)) (now (claims .entry))) (now (file .entry)) code
-        (now (length .entry)) (now (length .exit)) (now (file .exit))
+        WriteExported (givenGroup header (now (counts .entry)) (now (claims .entry))) (now (file .entry)) code
+        (now (size .entry)) (now (size .exit)) (now (file .exit))
         ⌝ }
 {
-    match groupfile::writer::write(header, counts, claims, file) {
+    match writing::writer::write(header, counts, claims, file) {
         Written::Refused(k) => k,
         Written::Length(n) => {
-            *length = n;
+            *size = n;
             0
         }
     }

@@ -1,15 +1,15 @@
 // Document 01's worked figures and the cases that it wants by program only, run on the calls: a line for each. What the lines
 // must be is in the file `stdout`, worked out from documents 01 and 001.
-use groupfile::header::Header;
-use groupfile::reader::GroupRead;
-use groupfile::reader::read;
-use groupfile::writer::Written;
-use groupfile::writer::write;
+use group::Header;
 use libc::STDOUT_FILENO;
 use rating::rates::Rated;
 use rating::rates::rate;
-use rating::tables::Tabled;
-use rating::tables::table;
+use reading::GroupRead;
+use reading::read;
+use tables::Tabled;
+use tables::table;
+use writing::writer::Written;
+use writing::writer::write;
 
 fn print(text: &[u8]) {
     io::write_all(STDOUT_FILENO, text);
@@ -132,7 +132,7 @@ fn show_read(label: &[u8], file: &[u8], counts: &mut [u8], claims: &mut [u32]) {
     match read(file, counts, claims) {
         GroupRead::Refused(k) => print_refused(k),
         GroupRead::Given(g) => {
-            print_header(g.risks, g.values);
+            print_header(g.risks, g.header);
             print_line(counts);
             print_numbers(claims);
             print(b"\n");

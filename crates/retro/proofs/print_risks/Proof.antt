@@ -1,15 +1,16 @@
--- `retro::print_risks` is safe and ends: each index is below 255. Assumes nothing.
+-- `retro::print_risks` is safe and ends: each index is below the most risks. Assumes nothing.
 use Prim.Native.Nat.{_-_, _≤_}
 use native.Mathlib.Omega.{arith}
 use borrow.Author.Needs.{needs}
+use Rattle.plan.specs.Sizes.{mostRisks}
 use Rattle.retro.proofs.print_risks.Statement.{statement}
 use Rattle.retro.proofs.print_risks.Tie as tie
 
 abbrev Inv-loop : tie.InvT-loop
-Inv-loop premiums n totals limiteds ratables i₀ i = i ≤ 255
+Inv-loop premiums n totals limiteds ratables i₀ i = i ≤ mostRisks
 
 abbrev μ-loop : tie.MeasureT-loop
-μ-loop premiums n totals limiteds ratables i₀ i = 255 - i
+μ-loop premiums n totals limiteds ratables i₀ i = mostRisks - i
 
 loop-holds : tie.Need-loop-holds Inv-loop μ-loop
 loop-holds c = omega arith

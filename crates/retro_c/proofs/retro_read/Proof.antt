@@ -1,8 +1,8 @@
 -- `retro_c::retro_read` meets its contract: Read's answer as ten numbers. Assumes nothing.
 use mathlib.Core.Path.{_≡_, subst}
-use Rattle.groupfile.specs.Read.{ReadSays}
-use Rattle.groupfile.specs.declared.reader.GroupRead.{GroupRead}
-use Rattle.groupfile.specs.declared.reader.GroupRead.the-variants.{Given, Refused}
+use Rattle.reading.specs.Reading.{ReadSays}
+use Rattle.reading.specs.declared.GroupRead.{GroupRead}
+use Rattle.reading.specs.declared.GroupRead.the-variants.{Given, Refused}
 use Rattle.retro_c.proofs.Exports.{read-refused, read-given}
 use borrow.Author.Needs.{needs}
 use Rattle.retro_c.proofs.retro_read.Statement.{statement}
@@ -14,8 +14,8 @@ read-requires c κs = search needs
 enum-known-k : tie.Need-enum-known-k
 enum-known-k c = search needs
 
-enum-known-h : tie.Need-enum-known-h
-enum-known-h c = search needs
+enum-known-g : tie.Need-enum-known-g
+enum-known-g c = search needs
 
 same-length : tie.Need-same-length
 same-length c = search needs
@@ -41,9 +41,9 @@ returns-2 : tie.Need-returns-2
 returns-2 c =
     let r = c .before .before .before .before .before .before .before .before in
     let a = r .before .before .before .before .before .before .args in
-    let h = c .before .before .h .given .0 .0 in
-    let e : r .read .result ≡ Given h = cc in
-    read-given (a .file .now) (a .counts .now) (a .claims .now) _ _ h
+    let g = c .before .before .g .given .0 .0 in
+    let e : r .read .result ≡ Given g = cc in
+    read-given (a .file .now) (a .counts .now) (a .claims .now) _ _ g
     (subst (λ (y : GroupRead). ReadSays (a .file .now) (a .counts .now) (a .claims .now) y (r .read .last .1 .0) (r .read .last .1 .1 .0)) e (r .read .ensures))
 
 pub retro-read-spec : {M : Type 1} → statement M
@@ -52,7 +52,7 @@ retro-read-spec =
     (tie.spec
     read-requires
     enum-known-k
-    enum-known-h
+    enum-known-g
     same-length
     same-length-2
     returns

@@ -1,7 +1,7 @@
 -- `retro_c::retro_table` meets its contract: Table's answer, with the lent numbers set where there is one. Assumes nothing.
 use mathlib.Core.Path.{_≡_, sym, ap, _∙_}
-use Rattle.rating.specs.Tables.{ratiosAre}
-use Rattle.rating.specs.declared.tables.Tabled.the-variants.{Given, Refused}
+use Rattle.tables.specs.Tables.{ratiosAre}
+use Rattle.tables.specs.declared.Tabled.the-variants.{Given, Refused}
 use Rattle.retro_c.proofs.Exports.{table-refused, table-given}
 use borrow.Author.Needs.{needs}
 use Rattle.retro_c.proofs.retro_table.Statement.{statement}

@@ -1,8 +1,8 @@
 -- `retro_c::retro_write` meets its contract: Write's answer, with the lent length set where there is one. Assumes nothing.
 use mathlib.Core.Path.{_≡_, subst}
-use Rattle.groupfile.specs.Write.{groupOf, WriteSays}
-use Rattle.groupfile.specs.declared.writer.Written.{Written}
-use Rattle.groupfile.specs.declared.writer.Written.the-variants.{Length, Refused}
+use Rattle.writing.specs.Writer.{givenGroup, WriteSays}
+use Rattle.writing.specs.declared.writer.Written.{Written}
+use Rattle.writing.specs.declared.writer.Written.the-variants.{Length, Refused}
 use Rattle.retro_c.proofs.Exports.{write-refused, write-given}
 use borrow.Author.Needs.{needs}
 use Rattle.retro_c.proofs.retro_write.Statement.{statement}
@@ -24,9 +24,9 @@ returns : tie.Need-returns
 returns c =
     let r = c .before .before .before .before .before in
     let a = r .before .before .before .before .before .args in
-    let g = groupOf (a .header) (a .counts .now) (a .claims .now) in
+    let g = givenGroup (a .header) (a .counts .now) (a .claims .now) in
     let e : r .write .result ≡ Refused (c .before .k .given .0 .0) = cc in
-    write-refused g (a .file .now) _ _ (a .length .now)
+    write-refused g (a .file .now) _ _ (a .size .now)
     (subst (λ (y : Written). WriteSays g (a .file .now) y (r .write .last .1 .1 .1 .0)) e (r .write .ensures))
 
 same-length-2 : tie.Need-same-length-2
@@ -36,10 +36,10 @@ returns-2 : tie.Need-returns-2
 returns-2 c =
     let r = c .before .before .before .before .before in
     let a = r .before .before .before .before .before .args in
-    let g = groupOf (a .header) (a .counts .now) (a .claims .now) in
+    let g = givenGroup (a .header) (a .counts .now) (a .claims .now) in
     let n = c .before .n .given .0 .0 in
     let e : r .write .result ≡ Length n = cc in
-    write-given g (a .file .now) _ n (a .length .now)
+    write-given g (a .file .now) _ n (a .size .now)
     (subst (λ (y : Written). WriteSays g (a .file .now) y (r .write .last .1 .1 .1 .0)) e (r .write .ensures))
 
 pub retro-write-spec : {M : Type 1} → statement M
