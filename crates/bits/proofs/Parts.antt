@@ -9,13 +9,13 @@ use Rattle.words.proofs.Words.{next-bits}
 use Rattle.bits.proofs.Puts.{put-none, put-put}
 
 -- t has all bits of the value but the `left` lowest
-pub record Putting (s : List ℕ) (at₀ width value : ℕ) (t : List ℕ) (at left : ℕ) : Type 0 where
+pub record PutSoFar (s : List ℕ) (at₀ width value : ℕ) (t : List ℕ) (at left : ℕ) : Type 0 where
   pub fewer : left ≤ width
   pub place : at + left ≡ at₀ + width
   pub done : Put s at₀ (width - left) (value / 2 ^ left) t
 
 -- none is put
-pub starts : (s : List ℕ) (at width value : ℕ) → value < 2 ^ width → Putting s at width value s at width
+pub starts : (s : List ℕ) (at width value : ℕ) → value < 2 ^ width → PutSoFar s at width value s at width
 starts s at width value h =
     let none : 0 ≡ width - width = omega arith in record {
       fewer = omega arith;
@@ -25,8 +25,8 @@ starts s at width value h =
 
 -- n more are put
 pub goes-on : {s : List ℕ} {at₀ width value : ℕ} {t : List ℕ} {at left n part : ℕ} {u : List ℕ}
-    → Putting s at₀ width value t at left → InByte at left n → part ≡ value / 2 ^ (left - n) % 2 ^ n
-    → Put t at n part u → Putting s at₀ width value u (at + n) (left - n)
+    → PutSoFar s at₀ width value t at left → InByte at left n → part ≡ value / 2 ^ (left - n) % 2 ^ n
+    → Put t at n part u → PutSoFar s at₀ width value u (at + n) (left - n)
 goes-on {s} {at₀} {width} {value} {t} {at} {left} {n} {part} {u} p r e q =
     let here : at ≡ at₀ + (width - left) = omega arith in
     let sum : width - left + n ≡ width - (left - n) = omega arith in
@@ -40,7 +40,7 @@ goes-on {s} {at₀} {width} {value} {t} {at} {left} {n} {part} {u} p r e q =
     }
 
 -- all are put
-pub ends : {s : List ℕ} {at₀ width value : ℕ} {t : List ℕ} {at left : ℕ} → Putting s at₀ width value t at left
+pub ends : {s : List ℕ} {at₀ width value : ℕ} {t : List ℕ} {at left : ℕ} → PutSoFar s at₀ width value t at left
     → left ≡ 0 → Put s at₀ width value t
 ends {s} {at₀} {width} {value} {t} {at} {left} p e =
     let all : width - left ≡ width = omega arith in

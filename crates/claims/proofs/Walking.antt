@@ -7,7 +7,7 @@ use Prim.Native.Nat.{ℕ, _+_, _*_, _/_, _≤_, _<_}
 use native.Mathlib.Omega.{arith}
 use lib.ListN.{length, set, replicate}
 use Rattle.plan.specs.Arithmetic.{sum}
-use Rattle.plan.specs.Sizes.{mostClaim, mostClaims, mostRisks, mostRiskLosses, mostRiskBits, mostFileBits}
+use Rattle.plan.specs.Sizes.{largestClaim, mostClaims, mostRisks, mostRiskLosses, mostRiskBits, mostFileBits}
 use Rattle.plan.specs.Header.{headerBits}
 use Rattle.plan.specs.Claim.{claimWidth, claimAt, pastClaim, claimsFrom, pastClaims}
 use Rattle.plan.specs.Risk.{countAt, claimsAt, pastRisk, countsFrom, pastRisks}
@@ -44,7 +44,7 @@ summing-starts s at limit = record { place = refl; total-is = refl; limited-is =
 
 module _ {s : List ℕ} {at limit i p total limited : ℕ} (w : Summing s at limit i p total limited) where
   -- the sums so far are below what 63 claims can come to
-  pub total-most : total ≤ mostClaim * i
+  pub total-most : total ≤ largestClaim * i
   total-most = omega (arith, w .total-is, claims-total-le s at i)
 
   pub limited-most : limited ≤ total
@@ -63,7 +63,7 @@ module _ {s : List ℕ} {at limit i p total limited : ℕ} (w : Summing s at lim
 
   -- the sum with a claim more
   pub more-most : {t : Taken} {l : ℕ} → ClaimTaken s p t → l ≡ limitedTo limit (t .value)
-      → (total + t .value ≤ mostClaim * (i + 1)) × (limited + l ≤ mostClaim * (i + 1))
+      → (total + t .value ≤ largestClaim * (i + 1)) × (limited + l ≤ largestClaim * (i + 1))
   more-most {t} {l} x e =
       let v = claim-le s p in
       let m = limited-le limit (t .value) in

@@ -1,4 +1,4 @@
-// One claim as it lies in the file: taken, put, and whether it fits. Nothing else knows a claim's width.
+// One claim as it lies in the file: taken, put, and whether it fits.
 ghost use mathlib.Core.Path.{_≡_};
 ghost use Prim.Native.Nat.{_+_, _*_, _/_, _≤_};
 ghost use Rattle.plan.specs.Claim.{slotsOfClaim, claimFits};

@@ -46,12 +46,12 @@ basic-differs n e c sl sx ss =
     record { is = omega (arith, whole .is) }
 
 -- the total of the unrounded premiums over ratable losses k, with q for the excess loss charge and m for the basic
-abbrev pub totalOf : {A : Type 0} → ℕ → ℕ → ℕ → ℕ → (A → ℕ) → List A → ℤ → ℤ
-totalOf n c t q k rs m = sumZ (λ r. unroundedOf n c t m q (k r)) rs
+abbrev pub premiumTotal : {A : Type 0} → ℕ → ℕ → ℕ → ℕ → (A → ℕ) → List A → ℤ → ℤ
+premiumTotal n c t q k rs m = sumZ (λ r. unroundedOf n c t m q (k r)) rs
 
 -- as a difference, where m is one
 total-differs : {A : Type 0} (n c t q : ℕ) (k : A → ℕ) (rs : List A) (m : ℤ) (a b : ℕ) → Differs m a b
-    → Differs (totalOf n c t q k rs m) (t * (length rs * (a + q) + n * c * sumOf k rs)) (length rs * (t * b))
+    → Differs (premiumTotal n c t q k rs m) (t * (length rs * (a + q) + n * c * sumOf k rs)) (length rs * (t * b))
 total-differs n c t q k rs m a b d =
     let one : (r : _) → Differs (unroundedOf n c t m q (k r)) (t * (a + q + n * c * k r)) (t * b) = λ r.
     let p = of-scale t _ (of-add _ _ (of-add m (pos q) d (of-pos q)) (of-pos (n * c * k r))) in
@@ -73,7 +73,7 @@ algebra n e c t sl sa sx ss sk q h g = omega (arith, ap (λ (x : ℕ). t * n * c
 
 -- the total with step 4's M and step 5's Q
 pub balance : (h : Header) (rs : List Losses) → SA rs ≤ SL rs → LH h rs ≤ LG h rs
-    → totalOf (length rs) (h .conversion) (h .tax) (excessCharge h rs) (ratable h rs) rs (basicPremium h rs)
+    → premiumTotal (length rs) (h .conversion) (h .tax) (excessCharge h rs) (ratable h rs) rs (basicPremium h rs)
     ≡ pos (1000 * length rs * h .tax * (length rs * h .expense + SL rs))
 unfolding basicPremium excessCharge
 balance h rs fits ordered =
@@ -90,7 +90,7 @@ cancel k a b a′ b′ p h = eq-of-mul-eq-mul-left k p (a + b′) (a′ + b) (om
 
 -- two basics with one total are one, whatever Q and the ratable losses are
 pub total-injective : {A : Type 0} (n c t q : ℕ) (k : A → ℕ) (rs : List A) → 0 < t → 0 < length rs → (m m′ : ℤ)
-    → totalOf n c t q k rs m ≡ totalOf n c t q k rs m′ → m ≡ m′
+    → premiumTotal n c t q k rs m ≡ premiumTotal n c t q k rs m′ → m ≡ m′
 total-injective n c t q k rs pt pn m m′ e =
     let x = crossed _ _ (total-differs n c t q k rs m (over m) (under m) (of-self m))
     (total-differs n c t q k rs m′ (over m′) (under m′) (of-self m′)) e in

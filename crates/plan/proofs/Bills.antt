@@ -6,7 +6,7 @@ use Prim.Native.Nat.{ℕ, _+_, _*_, _/_, _^_, _≤_, _<_}
 use native.Mathlib.Omega.{arith}
 use native.Mathlib.Nat.{mul-le-mul, mul-le-mul-left, mul-le-mul-right, le-trans}
 use lib.IntN.{ℤ, pos, natAbs}
-use Rattle.plan.specs.Sizes.{mostDollars, premiumScale}
+use Rattle.plan.specs.Sizes.{mostDollars, mostShared, premiumScale, halfDollar}
 use Rattle.plan.specs.Ratable.{clamp}
 use Rattle.plan.specs.Premium.{Terms, unroundedOf, billRounding, billOf, billWith}
 use Rattle.plan.specs.Bounds.{TermsBounds}
@@ -17,7 +17,7 @@ module _ (t : Terms) (b : TermsBounds t) (m : ℕ) (is : pos m ≡ t .basic) (a 
   abbrev pub numerator : ℕ
   numerator = t .tax * (m + t .excess + t .risks * t .conversion * clamp (t .minimum) (t .maximum) a)
 
-  shared-le : m + t .excess ≤ 67108800000 * t .risks
+  shared-le : m + t .excess ≤ mostShared * t .risks
   shared-le = omega (arith, ap natAbs is, b .shared)
 
   -- n × c × K
@@ -47,30 +47,30 @@ module _ (t : Terms) (b : TermsBounds t) (m : ℕ) (is : pos m ≡ t .basic) (a 
       (premiumScale * t .risks))
       (sym is)
 
-  halves : 2 * (5000000 * t .risks) ≡ premiumScale * t .risks
+  halves : 2 * (halfDollar * t .risks) ≡ premiumScale * t .risks
   halves = omega arith
 
-  half-some : 0 < 5000000 * t .risks
+  half-some : 0 < halfDollar * t .risks
   half-some = omega (arith, b .some)
 
   -- half the divisor is added, and the sum divided
-  pub bill-quotient : (numerator + 5000000 * t .risks) / (premiumScale * t .risks) ≡ billWith t a
+  pub bill-quotient : (numerator + halfDollar * t .risks) / (premiumScale * t .risks) ≡ billWith t a
   bill-quotient =
-      ap (λ (x : ℕ). (numerator + 5000000 * t .risks) / x) (sym halves)
-      ∙ sym (bill-even numerator (5000000 * t .risks) half-some)
+      ap (λ (x : ℕ). (numerator + halfDollar * t .risks) / x) (sym halves)
+      ∙ sym (bill-even numerator (halfDollar * t .risks) half-some)
       ∙ ap (billRounding numerator) halves
       ∙ sym bill-is
 
   -- within half a dollar of the unrounded premium
-  pub premium-within : Within (premiumScale * t .risks * billWith t a) numerator (5000000 * t .risks)
+  pub premium-within : Within (premiumScale * t .risks * billWith t a) numerator (halfDollar * t .risks)
   premium-within =
-      subst (λ (x : ℕ). Within (premiumScale * t .risks * x) numerator (5000000 * t .risks)) (sym bill-is)
-      (subst (λ (x : ℕ). Within (x * billRounding numerator x) numerator (5000000 * t .risks)) halves
-      (bill-within (5000000 * t .risks) numerator half-some))
+      subst (λ (x : ℕ). Within (premiumScale * t .risks * x) numerator (halfDollar * t .risks)) (sym bill-is)
+      (subst (λ (x : ℕ). Within (x * billRounding numerator x) numerator (halfDollar * t .risks)) halves
+      (bill-within (halfDollar * t .risks) numerator half-some))
 
   -- 'as 32 bits': it fits
   pub bill-lt : billWith t a < 2 ^ 31
   bill-lt =
-      within-lt (5000000 * t .risks) (billWith t a) numerator (2 ^ 31)
-      (subst (λ (x : ℕ). Within (x * billWith t a) numerator (5000000 * t .risks)) (sym halves) premium-within)
+      within-lt (halfDollar * t .risks) (billWith t a) numerator (2 ^ 31)
+      (subst (λ (x : ℕ). Within (x * billWith t a) numerator (halfDollar * t .risks)) (sym halves) premium-within)
       (omega (arith, numerator-le, b .some))

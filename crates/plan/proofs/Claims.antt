@@ -9,7 +9,7 @@ use native.Mathlib.Numerals.{add-one}
 use native.Mathlib.Omega.{arith}
 use borrow.Author.Tests.{ltb-true, lt-ltb}
 use lib.ListN.{length, getD, take, drop}
-use Rattle.plan.specs.Sizes.{mostClaim}
+use Rattle.plan.specs.Sizes.{largestClaim}
 use Rattle.plan.specs.Field.{Slot, totalWidth, Laid, Fitting}
 use Rattle.plan.specs.Claim.{claimWidth, claimAt, pastClaim, claimsFrom, pastClaims, slotsOfClaim, slotsOfClaims, claimFits}
 use Rattle.plan.specs.Claim.{claimsFit}
@@ -19,7 +19,7 @@ use Rattle.plan.proofs.Written.{width-append, laid-append, laid-first, 
 
 -- ---- one claim
 
-pub claim-le : (s : List ℕ) (at : ℕ) → claimAt s at ≤ mostClaim
+pub claim-le : (s : List ℕ) (at : ℕ) → claimAt s at ≤ largestClaim
 unfolding claimAt
 claim-le s at = omega (arith, field-lt s at claimWidth)
 

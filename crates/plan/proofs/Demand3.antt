@@ -29,7 +29,7 @@ use Rattle.plan.proofs.Fields.{fields-same, bit-append}
 use Rattle.plan.proofs.Written.{width-slots, slots-laid, bytesOf-laid, length-bytesOf}
 use Rattle.plan.proofs.Questions.{passed-both, given-passed, BalanceSound, RatingSound, rating-sound}
 use Rattle.plan.proofs.Rounding.{Within, sum-within}
-use Rattle.plan.proofs.Balance.{totalOf, balance, total-injective}
+use Rattle.plan.proofs.Balance.{premiumTotal, balance, total-injective}
 use Rattle.plan.proofs.Losses.{length-losses}
 use Rattle.plan.proofs.FileSizes.{group-bounds}
 use Rattle.plan.proofs.GroupSizes.{terms-bounds}
@@ -56,7 +56,7 @@ module _ (h : Header) (rs : List Losses) (b : GroupBounds h rs) (sound : Balance
   cost = 1000 * length rs * h .tax * (length rs * h .expense + SL rs)
 
   abbrev totalFor : ℤ → ℤ
-  totalFor z = totalOf (length rs) (h .conversion) (h .tax) (excessCharge h rs) (ratable h rs) rs z
+  totalFor z = premiumTotal (length rs) (h .conversion) (h .tax) (excessCharge h rs) (ratable h rs) rs z
 
   total-is : totalFor (pos m) ≡ pos cost
   total-is = ap totalFor is ∙ balance h rs (b .limited) (sound .ordered)
@@ -104,7 +104,7 @@ demanded s old m f is =
     let numbers : numbersIn bytes (riskCount s) ≡ ps =
     ap (numbersIn bytes) (sym count) ∙ numbers-written ps (drop (length (bytesOf (slots 32 ps))) old) fits in
     let cost-at : ℕ → ℕ = λ (k : ℕ). 1000 * k * h .tax * (k * h .expense + SL rs) in
-    let total-at : ℕ → ℤ → ℤ = λ (k : ℕ) (z : ℤ). totalOf k (h .conversion) (h .tax) (excessCharge h rs) (ratable h rs) rs z in
+    let total-at : ℕ → ℤ → ℤ = λ (k : ℕ) (z : ℤ). premiumTotal k (h .conversion) (h .tax) (excessCharge h rs) (ratable h rs) rs z in
     let total : total-at (riskCount s) (pos m) ≡ pos (cost-at (riskCount s)) =
     subst (λ (k : ℕ). total-at k (pos m) ≡ pos (cost-at k)) n (total-is h rs b sound m is) in
     let within : Within (10000000 * riskCount s * sum ps) (cost-at (riskCount s)) (5000000 * riskCount s * riskCount s) =

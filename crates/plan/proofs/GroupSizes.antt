@@ -10,7 +10,7 @@ use lib.IntN.{ℤ, pos, negsuc, natAbs}
 use lib.Signed.{nonNeg}
 use lib.ListN.{length}
 use Rattle.plan.specs.Arithmetic.{above, below}
-use Rattle.plan.specs.Sizes.{mostClaim, mostMark, mostRiskLosses, mostDollars}
+use Rattle.plan.specs.Sizes.{largestExpense, mostMark, mostRiskLosses, mostDollars}
 use Rattle.plan.specs.Header.{Header, standardPremiumField}
 use Rattle.plan.specs.Losses.{Losses, SL, SA}
 use Rattle.plan.specs.Marks.{markOf, dollars, LG, LH}
@@ -82,7 +82,7 @@ module _ (h : Header) (rs : List Losses) (b : GroupBounds h rs) where
 
     pub terms-bounds : TermsBounds (termsOf h rs)
     terms-bounds =
-        let e : length rs * h .expense ≤ length rs * mostClaim = mul-le-mul-left (length rs) (omega (arith, b .expense)) in
+        let e : length rs * h .expense ≤ length rs * largestExpense = mul-le-mul-left (length rs) (omega (arith, b .expense)) in
         record {
           some = b .sound .risks;
           few = b .risks;

@@ -6,7 +6,7 @@ use Prim.Native.Nat.{ℕ, zero, suc, _+_, _*_, _≤_}
 use native.Mathlib.Omega.{arith}
 use lib.ListN.{length, length-map}
 use Rattle.plan.specs.Arithmetic.{sum, sumOf}
-use Rattle.plan.specs.Sizes.{mostClaim, mostClaims, mostRiskLosses}
+use Rattle.plan.specs.Sizes.{largestClaim, mostClaims, mostRiskLosses}
 use Rattle.plan.specs.Header.{headerOf, headerBits, riskCount}
 use Rattle.plan.specs.Claim.{claimAt, pastClaim, claimsFrom, pastClaims}
 use Rattle.plan.specs.Risk.{countAt, firstClaim, claimsAt, pastRisk, risksFrom, pastRisks}
@@ -53,7 +53,7 @@ limited-so-far limit s at k =
     ∙ sum-append (limitedTo limit) (claimsFrom s at k) (claimAt s (pastClaims s at k) ∷ [])
     ∙ omega arith
 
-pub claims-total-le : (s : List ℕ) (at k : ℕ) → totalOf (claimsFrom s at k) ≤ mostClaim * k
+pub claims-total-le : (s : List ℕ) (at k : ℕ) → totalOf (claimsFrom s at k) ≤ largestClaim * k
 claims-total-le s at zero = omega arith
 claims-total-le s at (suc k) = omega (arith, claim-le s at, claims-total-le s (pastClaim s at) k)
 

@@ -146,7 +146,7 @@ pub record FileSound (s : List ℕ) : Type 0 where
   -- 9
   pub fill : fillOf s ≡ 0
 
--- what the first two lists of 1 to 9 are
+-- 1 and 2
 abbrev firstQuestions : List ℕ → List Question
 firstQuestions s = question1 s ∷ question2 s ∷ []
 

@@ -42,7 +42,7 @@ laid-count s at k fs l = l
 pub length-claims-at : (s : List ℕ) (at : ℕ) → length (claimsAt s at) ≡ countAt s at
 length-claims-at s at = length-claims s (firstClaim at) (countAt s at)
 
--- a risk takes at most a count and 63 claims, and never ends before it begins
+-- a risk takes at most a count and 63 claims
 pub past-risk-le : (s : List ℕ) (at : ℕ) → pastRisk s at ≤ at + mostRiskBits
 past-risk-le s at = omega (arith, past-claims s (firstClaim at) (countAt s at), first-claim at, count-le s at)
 

@@ -29,7 +29,7 @@ module _ (h : Header) (rs : List Losses) (b : GroupBounds h rs) (r : ℕ) (hr : 
       (λ x. sub-le _ _) rs in
       omega (arith, a, sum-mul (100 * length rs) (λ (x : Losses). x .limited) rs)
 
-  pub savings-le : savingsSum rs r ≤ 600 * length rs * SA rs
+  pub savings-le : savingsSum rs r ≤ mostRatio * length rs * SA rs
   unfolding savingsSum
   savings-le =
       let a = sum-le (λ x. below (100 * length rs * x .limited) (r * SA rs)) (λ x. r * SA rs) (λ x. sub-le _ _) rs in

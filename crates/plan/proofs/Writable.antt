@@ -37,7 +37,7 @@ pub record Writable (h : Header) (counts claims : List ℕ) : Type 0 where
   pub adds : sum counts ≡ length claims
 
 -- the header's values, each below the power of its width
-header-fitting : (h : Header) (n : ℕ) → headerFits h ≡ true → n < 2 ^ 8 → Fitting (headerSlots h n)
+header-fitting : (h : Header) (n : ℕ) → headerFits h ≡ true → n < 2 ^ risksField .width → Fitting (headerSlots h n)
 header-fitting h n e f =
     let p₈ = both _ _ e in
     let p₇ = both _ _ (p₈ .0) in

@@ -261,10 +261,6 @@ pub width-slots : (w : ℕ) (vs : List ℕ) → totalWidth (slots w vs) ≡ leng
 width-slots w [] = omega arith
 width-slots w (v ∷ vs) = omega (arith, width-slots w vs)
 
-pub laid-slots : (s : List ℕ) (at w : ℕ) (vs : List ℕ) → fields s at w (length vs) ≡ vs → Laid s at (slots w vs)
-laid-slots s at w [] e = tt
-laid-slots s at w (v ∷ vs) e = (cc, laid-slots s (at + w) w vs (cc))
-
 pub slots-laid : (s : List ℕ) (at w : ℕ) (vs : List ℕ) → Laid s at (slots w vs) → fields s at w (length vs) ≡ vs
 slots-laid s at w [] l = refl
 slots-laid s at w (v ∷ vs) l = ap₂ _∷_ (l .0) (slots-laid s (at + w) w vs (l .1))

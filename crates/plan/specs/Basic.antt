@@ -15,12 +15,16 @@ abbrev pub basicOf : ℕ → ℕ → ℕ → ℕ → ℕ → ℕ → ℤ
 basicOf n e c sl sx ss =
     pos (1000 * n * e) -ℤ (pos c -ℤ pos 1000) *ℤ pos sl +ℤ pos c *ℤ (pos sx -ℤ pos ss)
 
+-- 'The excess loss charge, in the same unit, is Q = c × (SL − SA): formula (11).' By step 1 no A is above its L, so SL − SA
+-- cannot cut off
+abbrev pub excessOf : ℕ → ℕ → ℕ → ℕ
+excessOf c sl sa = c * (sl - sa)
+
 module _ (h : Header) (rs : List Losses) where
   -- M, the balanced basic premium
   unfoldable pub basicPremium : ℤ
   basicPremium = basicOf (length rs) (h .expense) (h .conversion) (SL rs) (SX h rs) (SS h rs)
 
-  -- Q: 'The excess loss charge, in the same unit, is Q = c × (SL − SA): formula (11).' By step 1 no A is above its L,
-  -- so SL − SA cannot cut off
+  -- Q, the excess loss charge
   unfoldable pub excessCharge : ℕ
-  excessCharge = h .conversion * (SL rs - SA rs)
+  excessCharge = excessOf (h .conversion) (SL rs) (SA rs)

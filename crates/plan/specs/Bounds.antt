@@ -24,7 +24,7 @@ pub record HeaderSound (h : Header) (n : ℕ) : Type 0 where
   -- 7
   pub risks : 1 ≤ n
 
--- a group that passes 3 to 7, with numbers within the file's widths
+-- a group that passes 3 to 7, with numbers within the file's widths and A at most L
 pub record GroupBounds (h : Header) (rs : List Losses) : Type 0 where
   pub sound : HeaderSound h (length rs)
   pub premium : h .standardPremium < 2 ^ standardPremiumField .width

@@ -1,5 +1,5 @@
--- 'then that many claims of 20 bits each. A claim may be 0.' How one claim lies in the file, and a run of them: nothing else
--- knows a claim's width.
+-- 'then that many claims of 20 bits each. A claim may be 0.' How one claim lies in the file, and a run of them: all
+-- other definitions and all proofs go by these names and their laws.
 use mathlib.Core.Bool.{Bool, true, _&&_}
 use mathlib.Core.List.{List, [], _∷_, _++_}
 use Prim.Native.Nat.{ℕ, zero, suc, _+_}

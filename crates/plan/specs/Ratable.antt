@@ -7,7 +7,8 @@ use Rattle.plan.specs.Header.{Header}
 use Rattle.plan.specs.Losses.{Losses}
 use Rattle.plan.specs.Marks.{LG, LH}
 
--- x raised to `low` if below and cut to `high` if above; raised first, so that `high` is never exceeded
+-- x raised to `low` if below and cut to `high` if above, which is K of LH, LG and A; raised first, so that `high` is never
+-- exceeded
 abbrev pub clamp : ℕ → ℕ → ℕ → ℕ
 clamp low high x = min (max x low) high
 

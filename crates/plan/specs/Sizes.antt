@@ -1,5 +1,25 @@
--- Sizes by name. Those of the file follow from its widths, the others from questions that passed; the laws show that they hold.
-use Prim.Native.Nat.{ℕ, _*_}
+-- Numbers by name. The first three are document 01's own, and the questions and step 6 are stated with them. The others are
+-- bounds that follow from the file's widths and from passed questions, as the laws show.
+use Prim.Native.Nat.{ℕ}
+
+-- ---- document 01's numbers
+
+-- 'Are both marks at most 6,000?', in thousandths
+abbrev pub mostMark : ℕ
+mostMark = 6000
+
+-- 'Is r at most 600?', in hundredths
+abbrev pub mostRatio : ℕ
+mostRatio = 600
+
+-- 'every premium times 10,000,000 × n', and half a dollar in that unit
+abbrev pub premiumScale : ℕ
+premiumScale = 10000000
+
+abbrev pub halfDollar : ℕ
+halfDollar = 5000000
+
+-- ---- bounds
 
 -- 'One size group: 1 to 255 risks'
 abbrev pub mostRisks : ℕ
@@ -9,9 +29,13 @@ mostRisks = 255
 abbrev pub mostClaims : ℕ
 mostClaims = 63
 
--- the largest claim, and the largest expense provision: 20 bits
-abbrev pub mostClaim : ℕ
-mostClaim = 1048575
+-- a claim: 20 bits
+abbrev pub largestClaim : ℕ
+largestClaim = 1048575
+
+-- an expense provision: 20 bits
+abbrev pub largestExpense : ℕ
+largestExpense = 1048575
 
 -- L of a risk: 63 of the largest claims
 abbrev pub mostRiskLosses : ℕ
@@ -33,10 +57,6 @@ mostFileBits = 322958
 abbrev pub largestFile : ℕ
 largestFile = 40370
 
--- 'Are both marks at most 6,000?', in thousandths
-abbrev pub mostMark : ℕ
-mostMark = 6000
-
 -- LG, LH and K: six times the largest mean loss
 abbrev pub mostDollars : ℕ
 mostDollars = 396361350
@@ -44,11 +64,3 @@ mostDollars = 396361350
 -- M + Q for each risk: 1,000 times the largest expense provision and L
 abbrev pub mostShared : ℕ
 mostShared = 67108800000
-
--- 'Is r at most 600?', in hundredths
-abbrev pub mostRatio : ℕ
-mostRatio = 600
-
--- 'every premium times 10,000,000 × n'
-abbrev pub premiumScale : ℕ
-premiumScale = 10000000

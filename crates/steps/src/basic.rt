@@ -1,12 +1,11 @@
 // Steps 4 and 5: the balanced basic premium M and the excess loss charge Q, in thousandths of a dollar for
 // the group.
 ghost use mathlib.Core.Path.{_≡_};
-ghost use Prim.Native.Nat.{_-_, _*_};
-ghost use Rattle.plan.specs.Basic.{basicOf};
+ghost use Rattle.plan.specs.Basic.{basicOf, excessOf};
 ghost use Rattle.steps.specs.Basic.{BasicBounds, basicIs, ExcessBounds};
 
 // The basic premium where it is at least 0.
-pub enum Basic {
+pub(crate) enum Basic {
     Amount(u64),
     Negative,
 }
@@ -28,7 +27,7 @@ pub(crate) fn basic_of(n: u64, e: u64, c: u64, sl: u64, sx: u64, ss: u64) -> Bas
 // Step 5: Q = c × (SL − SA).
 pub fn excess_of(c: u64, total: u64, limited: u64) -> u64
     requires { ⌜ ExcessBounds c total limited ⌝ }
-    ensures { λ r. ⌜ r ≡ c * (total - limited) ⌝ }
+    ensures { λ r. ⌜ r ≡ excessOf c total limited ⌝ }
 {
     c * (total - limited)
 }

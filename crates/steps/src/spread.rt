@@ -1,7 +1,7 @@
 // What limited losses have above a mark and lack below one, in all: SX and SS of step 3, and the numerators
 // of Table's charge and savings.
 ghost use mathlib.Core.Path.{_≡_};
-ghost use Prim.Native.Nat.{_-_, _^_, _≤_, _<_};
+ghost use Prim.Native.Nat.{_-_, _*_, _^_, _≤_, _<_};
 ghost use lib.ListN.{length, take};
 ghost use Rattle.plan.specs.Sizes.{mostRisks};
 ghost use Rattle.steps.specs.Spread.{SpreadIs};
@@ -21,7 +21,7 @@ fn above_by(x: u64, y: u64) -> u64
 
 // What each of the first n limited losses, times `scale`, has above `high` and lacks below `low`, in all.
 pub fn spread_of(limiteds: &[u32], n: u32, scale: u64, high: u64, low: u64) -> Spread
-    requires { ⌜ (n ≤ mostRisks) × (n ≤ length (now limiteds)) × (scale ≤ 25500) × (high < 2 ^ 44) × (low < 2 ^ 44) ⌝ }
+    requires { ⌜ (n ≤ mostRisks) × (n ≤ length (now limiteds)) × (scale ≤ 100 * mostRisks) × (high < 2 ^ 44) × (low < 2 ^ 44) ⌝ }
     ensures { λ r. ⌜ SpreadIs (take n (now (limiteds .entry))) scale high low r ⌝ }
 {
     let k = n as usize;

@@ -65,8 +65,8 @@ module _ {s : List ℕ} {r n sa : ℕ} {limiteds : List ℕ} (x : AtHand s r n s
   pub risks-few : n ≤ mostRisks
   risks-few = omega (arith, count, bounds .risks)
 
-  pub mark-fits : r * sa < 2 ^ 44
-  mark-fits =
+  pub entry-fits : r * sa < 2 ^ 44
+  entry-fits =
       let most : sa ≤ mostGroupLosses = omega (arith, x .sa-is, losses-le (headerOf s) (lossesIn s) bounds r (x .ratio)) in
       omega (arith, mul-le-mul (x .ratio) most)
 

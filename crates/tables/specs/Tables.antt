@@ -1,6 +1,7 @@
 -- What the functions of Table ask for and give, and its answer as document 01's.
 use mathlib.Core.Path.{_≡_}
 use Prim.Native.Nat.{ℕ, _+_, _*_, _^_, _≤_, _<_}
+use Rattle.plan.specs.Sizes.{mostRatio}
 use Rattle.plan.specs.Calls as plan
 use Rattle.tables.specs.declared.Tabled.{Tabled}
 use Rattle.tables.specs.declared.Tabled.the-variants as answers
@@ -10,7 +11,7 @@ pub record ThousandthsBounds (x half divisor : ℕ) : Type 0 where
   pub halves : divisor ≡ 2 * half
   pub some : 0 < half
   pub fits : 1000 * x + half < 2 ^ 63
-  pub most : 1000 * x ≤ 6000 * divisor
+  pub most : 1000 * x ≤ 10 * mostRatio * divisor
 
 -- the code's answer
 abbrev pub ratiosAre : Tabled → plan.Answer plan.Tabled

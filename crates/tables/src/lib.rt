@@ -45,8 +45,8 @@ pub fn table(file: &[u8], r: u32) -> Tabled
             }
             let n = opened.losses.risks;
             let limited = opened.losses.limited;
-            let mark = r as u64 * limited;
-            let sums = spread_of(&opened.losses.limiteds, n, 100 * n as u64, mark, mark);
+            let entry = r as u64 * limited;
+            let sums = spread_of(&opened.losses.limiteds, n, 100 * n as u64, entry, entry);
             let half = 50 * n as u64 * limited;
             let divisor = 2 * half;
             let charge = thousandths_of(sums.above, half, divisor);

@@ -1,4 +1,4 @@
 // Write: given values as the bytes of a group file. `fitting` has question 15, and `writer` the call. All
 // questions are decided before the first byte is stored.
-pub mod fitting;
+mod fitting;
 pub mod writer;

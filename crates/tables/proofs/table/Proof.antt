@@ -13,7 +13,7 @@ use Rattle.plan.specs.Table.{chargeSum, savingsSum}
 use Rattle.group.specs.Values.{verdictIs}
 use Rattle.group.specs.declared.Verdict.the-variants.{Passed, Failed}
 use Rattle.group.proofs.Losses.{limiteds-are, limiteds-enough}
-use Rattle.tables.proofs.Tabling.{AtHand, tabled, risks-few, mark-fits, half-fits, charge-sum, savings-sum, charge-bounds}
+use Rattle.tables.proofs.Tabling.{AtHand, tabled, risks-few, entry-fits, half-fits, charge-sum, savings-sum, charge-bounds}
 use Rattle.tables.proofs.Tabling.{savings-bounds, charge-is, savings-is}
 use Rattle.tables.proofs.table.Statement.{statement}
 use Rattle.tables.proofs.table.Tie as tie
@@ -76,8 +76,8 @@ returns c =
     let a = start (opened (c .before)) .args in
     tabled (a .file .now) (a .r) (passes (c .before)) (lt-leb _ _ (c .if1 .taken))
 
-mul-mark : tie.Need-mul-mark
-mul-mark c = omega (arith, mark-fits (at-hand c))
+mul-entry : tie.Need-mul-entry
+mul-entry c = omega (arith, entry-fits (at-hand c))
 
 cast-spread-of : tie.Need-cast-spread-of
 cast-spread-of c = search needs
@@ -90,7 +90,7 @@ spread-of-requires c κs =
     let r = c .before .before .before in
     let x = at-hand r in
     let g = opened (r .before) .open-losses .ensures .losses in
-    (risks-few x, limiteds-enough g (omega (arith, risks-few x, x .n-is)), omega (arith, risks-few x), mark-fits x, mark-fits x)
+    (risks-few x, limiteds-enough g (omega (arith, risks-few x, x .n-is)), omega (arith, risks-few x), entry-fits x, entry-fits x)
 
 cast-half : tie.Need-cast-half
 cast-half c = search needs
@@ -134,7 +134,7 @@ table-spec =
     enum-known-verdict
     enum-told
     returns
-    mul-mark
+    mul-entry
     cast-spread-of
     mul-spread-of
     spread-of-requires

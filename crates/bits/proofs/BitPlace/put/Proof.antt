@@ -6,12 +6,12 @@ use native.Mathlib.Omega.{arith}
 use borrow.Author.Needs.{needs}
 use lib.ListN.{length}
 use lib.Pow.{pow-pos}
-use Rattle.bits.proofs.Parts.{Putting, starts, goes-on, ends}
+use Rattle.bits.proofs.Parts.{PutSoFar, starts, goes-on, ends}
 use Rattle.bits.proofs.BitPlace.put.Statement.{statement}
 use Rattle.bits.proofs.BitPlace.put.Tie as tie
 
 abbrev Inv-loop : tie.InvT-loop
-Inv-loop out₀ width value at₀ left₀ out at left = Putting out₀ at₀ width value out at left
+Inv-loop out₀ width value at₀ left₀ out at left = PutSoFar out₀ at₀ width value out at left
 
 abbrev μ-loop : tie.MeasureT-loop
 μ-loop out₀ width value at₀ left₀ out at left = left
