@@ -1,0 +1,2 @@
+-- Laws for the calls that go on from a gate.
+pub mod Given

@@ -16,9 +16,9 @@ pub record RiskRunIs (s : List ℕ) (r : RiskRun) : Type 0 where
   pub first : r .first .at ≡ headerBits
   pub claims : r .claims ≡ sum (countsOf s)
 
--- of the file s: the gate's verdict and, whatever it is, the header values, the risks, and step 1's losses
+-- of the file s: the gate's verdict and, whatever it is, the header values, where the risks lie, and step 1's losses
 pub record OpenedIs (gate : List Question) (s : List ℕ) (r : Opened) : Type 0 where
   pub verdict : verdictIs (r .verdict) ≡ firstNo gate
   pub header : headerIs (r .header) ≡ headerOf s
-  pub risks : RiskRunIs s (r .risks)
+  pub run : RiskRunIs s (r .run)
   pub losses : LossesAre (lossesIn s) (r .losses)

@@ -28,7 +28,7 @@ pub struct RiskRun {
 pub struct Opened {
     pub verdict: Verdict,
     pub header: Header,
-    pub risks: RiskRun,
+    pub run: RiskRun,
     pub losses: GroupLosses,
 }
 
@@ -82,7 +82,7 @@ pub fn open(file: &[u8]) -> Opened
     Opened {
         verdict,
         header: values,
-        risks: RiskRun {
+        run: RiskRun {
             first,
             claims: walked.claims,
         },

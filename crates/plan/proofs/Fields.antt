@@ -183,16 +183,6 @@ bits-ext s t l hs ht h =
 
 -- ---- rows of fields
 
-pub length-fields : (s : List ℕ) (at w k : ℕ) → length (fields s at w k) ≡ k
-length-fields s at w zero = refl
-length-fields s at w (suc k) = ap suc (length-fields s (at + w) w k)
-
--- field i of a row
-pub fields-at : (s : List ℕ) (at w k i : ℕ) → i < k → getD (fields s at w k) i 0 ≡ field s (at + i * w) w
-fields-at s at w zero i h = omega arith
-fields-at s at w (suc k) zero h = field-at s w (omega arith)
-fields-at s at w (suc k) (suc i) h = fields-at s (at + w) w k i (omega arith) ∙ field-at s w (omega arith)
-
 -- a row is a matter of its own bits
 pub fields-same : (s t : List ℕ) (at w k : ℕ) → ((j : ℕ) → at ≤ j → j < at + k * w → bit s j ≡ bit t j) → fields s at w k ≡ fields t at w k
 fields-same s t at w zero h = refl

@@ -40,7 +40,6 @@ pub fn details_of(file: &[u8]) -> Details
 {
     let opened = open_rating(file);
     let losses = opened.losses;
-    let limiteds = losses.limiteds;
     let balanced = opened.balanced;
     match balanced {
         Balanced::Refused(k) => Details {
@@ -48,7 +47,7 @@ pub fn details_of(file: &[u8]) -> Details
             ratables: [0u32; MOST_RISKS],
         },
         Balanced::Given(terms) => {
-            let ratables = ratables_of(&limiteds, terms.risks, terms.minimum, terms.maximum);
+            let ratables = ratables_of(&losses.limiteds, terms.risks, terms.minimum, terms.maximum);
             Details { losses, ratables }
         }
     }

@@ -91,15 +91,6 @@ module _ {s : List ℕ} {at n : ℕ} {oldCounts oldClaims : List ℕ} {i p from 
         ap (countAt s) (w .place),
       )
 
-  pub counts-same : length counts ≡ length oldCounts
-  counts-same =
-      ap length (w .counts-are) ∙ length-filled (countsFrom s at i) oldCounts (omega (arith, length-counts s at i, room .counts))
-
-  pub claims-same : length claims ≡ length oldClaims
-  claims-same =
-      ap length (w .claims-are)
-      ∙ length-filled (allClaims (risksFrom s at i)) oldClaims (omega (arith, counts-claims s at i, w .entries, claims-room))
-
   -- one risk more, as the code has it: a count taken at p, then that many claims, stored
   pub storing-more : {t : Taken} {q : ℕ} {claims′ : List ℕ} → CountIs s p t
       → q ≡ pastClaims s (t .next .at) (t .value)

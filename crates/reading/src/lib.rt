@@ -85,7 +85,7 @@ pub fn read(file: &[u8], counts: &mut [u8], claims: &mut [u32]) -> GroupRead
     let opened = open(file);
     let verdict = opened.verdict;
     let risks = opened.losses.risks;
-    let run = opened.risks;
+    let run = opened.run;
     match verdict {
         Verdict::Failed(k) => GroupRead::Refused(k),
         Verdict::Passed => {

@@ -1,11 +1,10 @@
 -- The file's own questions, then question 10 of its limited losses. Assumes nothing.
-use mathlib.Core.Path.{_≡_, sym, ap, ap₂, _∙_}
+use mathlib.Core.Path.{_≡_, sym, ap, _∙_}
 use mathlib.Core.List.{List, [], _∷_}
 use Prim.Native.Nat.{ℕ}
 use borrow.Author.Needs.{needs}
-use lib.Dec.{leb}
 use Rattle.plan.specs.Losses.{lossesIn}
-use Rattle.plan.specs.Questions.{Verdict, ask, firstNo, orElse, fileQuestions, question10}
+use Rattle.plan.specs.Questions.{Verdict, firstNo, orElse, fileQuestions, question10}
 use Rattle.plan.proofs.Questions.{after-gate}
 use Rattle.gates.proofs.open_losses.Statement.{statement}
 use Rattle.gates.proofs.open_losses.Tie as tie
@@ -23,11 +22,11 @@ returns c =
     let x = o .«open» .ensures in
     record {
       verdict =
-          c .ten-after .ensures
-          ∙ ap₂ (λ (v : Verdict) (sa : ℕ). orElse v (firstNo (ask 10 (leb 1 sa) ∷ []))) (x .verdict) (x .losses .limited)
+          c .ten-after .ensures (lossesIn s) (x .losses .limited)
+          ∙ ap (λ (v : Verdict). orElse v (firstNo (question10 (lossesIn s) ∷ []))) (x .verdict)
           ∙ sym (after-gate (fileQuestions s) (question10 (lossesIn s) ∷ []) (λ i. firstNo (fileQuestions s)));
       header = x .header;
-      risks = x .risks;
+      run = x .run;
       losses = x .losses;
     }
 

@@ -23,7 +23,7 @@ file o = o .before .before .args .file .now
 
 -- past question 10
 abbrev opened : tie.After-enum-told → tie.After-open-losses
-opened p = p .before .before .before .before
+opened p = p .before .before .before .before .before
 
 passes : (p : tie.After-enum-told) → firstNo (lossQuestions (file (opened p))) ≡ passed
 passes p =
@@ -51,7 +51,7 @@ balance-requires c κs =
 
 returns : tie.Need-returns
 returns c =
-    let o = c .before .before .before .before .before in
+    let o = c .before .before .before .before .before .before in
     let s = file o in
     let x = o .open-losses .ensures in
     let e : o .open-losses .result .verdict ≡ Failed (c .before .verdict .given .0 .0) = cc in
@@ -60,6 +60,7 @@ returns c =
           sym (answered (termsOf (headerOf s) (lossesIn s))
           (after-gate (lossQuestions s) (balanceQuestions (headerOf s) (lossesIn s)) (sym (x .verdict) ∙ ap verdictIs e)));
       header = x .header;
+      run = x .run;
       losses = x .losses;
     }
 
@@ -76,6 +77,7 @@ returns-2 c =
           ∙ sym (answered (termsOf (headerOf s) (lossesIn s))
           (after-gate (lossQuestions s) (balanceQuestions (headerOf s) (lossesIn s)) (passes (c .before))));
       header = x .header;
+      run = x .run;
       losses = x .losses;
     }
 

@@ -1,9 +1,11 @@
 -- What failed before is handed on; else the test is question 10's answer. Assumes nothing.
 use mathlib.Core.Path.{_≡_, sym, ap, _∙_}
 use mathlib.Core.List.{[], _∷_}
+use Prim.Native.Nat.{ℕ}
 use borrow.Author.Needs.{needs}
 use borrow.Author.Tests.{le-leb, lt-leb}
 use lib.Dec.{leb}
+use Rattle.plan.specs.Questions as plan
 use Rattle.plan.specs.Questions.{ask, firstNo, orElse}
 use Rattle.plan.proofs.Questions.{goes-on, stops}
 use Rattle.group.specs.Values.{verdictIs}
@@ -18,26 +20,34 @@ enum-known-asked c = search needs
 enum-told : tie.Need-enum-told
 enum-told c = search needs
 
+-- question 10 of limited losses, after what was asked before
+abbrev ten : Verdict → ℕ → plan.Verdict
+ten asked limited = orElse (verdictIs asked) (firstNo (ask 10 (leb 1 limited) ∷ []))
+
 -- past what was asked before, question 10 is left
 past : (c : tie.After-enum-told)
     → let a = c .before .before .args in
-    orElse (verdictIs (a .asked)) (firstNo (ask 10 (leb 1 (a .limited)) ∷ [])) ≡ firstNo (ask 10 (leb 1 (a .limited)) ∷ [])
+    ten (a .asked) (a .limited) ≡ firstNo (ask 10 (leb 1 (a .limited)) ∷ [])
 past c =
     let a = c .before .before .args in
     let e : a .asked ≡ Passed = cc in
-    ap (λ (v : Verdict). orElse (verdictIs v) (firstNo (ask 10 (leb 1 (a .limited)) ∷ []))) e
+    ap (λ (v : Verdict). ten v (a .limited)) e
 
 returns : tie.Need-returns
-returns c = sym (past (c .before) ∙ stops 10 [] (lt-leb _ _ (c .if1 .taken)))
+returns c rs e =
+    let a = c .before .before .before .args in
+    sym (past (c .before) ∙ stops 10 [] (lt-leb _ _ (c .if1 .taken))) ∙ ap (ten (a .asked)) e
 
 returns-2 : tie.Need-returns-2
-returns-2 c =
+returns-2 c rs e =
     let a = c .before .before .before .args in
-    let e : a .asked ≡ Failed (c .before .asked .given .0 .0) = cc in
-    sym (ap (λ (v : Verdict). orElse (verdictIs v) (firstNo (ask 10 (leb 1 (a .limited)) ∷ []))) e)
+    let f : a .asked ≡ Failed (c .before .asked .given .0 .0) = cc in
+    sym (ap (λ (v : Verdict). ten v (a .limited)) f) ∙ ap (ten (a .asked)) e
 
 returns-3 : tie.Need-returns-3
-returns-3 c = sym (past (c .before) ∙ goes-on 10 [] (le-leb _ _ (c .if1 .left)))
+returns-3 c rs e =
+    let a = c .before .before .before .args in
+    sym (past (c .before) ∙ goes-on 10 [] (le-leb _ _ (c .if1 .left))) ∙ ap (ten (a .asked)) e
 
 pub ten-after-spec : {M : Type 1} → statement M
 ten-after-spec = tie.close (tie.spec enum-known-asked enum-told returns returns-2 returns-3)

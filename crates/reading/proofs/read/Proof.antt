@@ -63,7 +63,7 @@ room c =
       place = omega arith;
       few = risks-le (file o);
       counts = omega (arith, c .before .before .if1 .left, risks o);
-      claims = omega (arith, c .if2 .left, o .«open» .ensures .risks .claims);
+      claims = omega (arith, c .if2 .left, o .«open» .ensures .run .claims);
     }
 
 -- ---- the needs
@@ -97,7 +97,7 @@ returns-2 c =
     let o = opened (r .before) in
     let a = start o .args in
     let enough : riskCount (a .file .now) ≤ length (a .counts .now) = omega (arith, r .if1 .left, risks o) in
-    let few : length (a .claims .now) < sum (countsOf (a .file .now)) = omega (arith, c .if2 .taken, o .«open» .ensures .risks .claims) in
+    let few : length (a .claims .now) < sum (countsOf (a .file .now)) = omega (arith, c .if2 .taken, o .«open» .ensures .run .claims) in
     refused-says (a .file .now) (a .counts .now) (a .claims .now)
     (verdict (a .file .now) (a .counts .now) (a .claims .now) (passes (r .before))
     (and-second-no (le-leb _ _ enough) (lt-leb _ _ few)))
@@ -111,7 +111,7 @@ read-risks-requires c κs =
     let o = opened (gate r) in
     let a = start o .args in
     subst₂ (λ (p n : ℕ). RisksRoom (a .file .now) p n (length (a .counts .now)) (length (a .claims .now)))
-    (sym (o .«open» .ensures .risks .first)) (sym (risks o)) (room r)
+    (sym (o .«open» .ensures .run .first)) (sym (risks o)) (room r)
 
 returns-3 : tie.Need-returns-3
 returns-3 c =
@@ -134,7 +134,7 @@ returns-4 c =
     let o = opened (gate r) in
     let a = start o .args in
     let s = a .file .now in
-    let f = o .«open» .ensures .risks .first in
+    let f = o .«open» .ensures .run .first in
     given-says s (a .counts .now) (a .claims .now)
     (verdict s (a .counts .now) (a .claims .now) (passes (gate r)) (and-yes (le-leb _ _ (room r .counts)) (le-leb _ _ (room r .claims))))
     (risks o) (o .«open» .ensures .header)

@@ -9,7 +9,7 @@ use Rattle.plan.specs.Sizes.{mostClaims}
 use Rattle.plan.specs.Risk.{countsFrom, risksFrom, allClaims}
 use Rattle.plan.specs.Calls.{filled}
 use Rattle.plan.proofs.Risks.{count-le, first-claim}
-use Rattle.reading.proofs.Storing.{Storing, storing-starts, place-most, claims-room, counts-same, claims-same, storing-more}
+use Rattle.reading.proofs.Storing.{Storing, storing-starts, place-most, claims-room, storing-more}
 use Rattle.reading.proofs.read_risks.Statement.{statement}
 use Rattle.reading.proofs.read_risks.Tie as tie
 

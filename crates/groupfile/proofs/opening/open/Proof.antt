@@ -42,7 +42,7 @@ returns c =
     record {
       verdict = c .before .file-verdict .ensures;
       header = e .values;
-      risks = record { first = e .next; claims = walked w .claims };
+      run = record { first = e .next; claims = walked w .claims };
       losses = walked w .losses;
     }
 

@@ -16,12 +16,12 @@ use Rattle.plan.specs.Calls.{answer}
 use Rattle.plan.proofs.Questions.{refused-failed}
 use Rattle.group.specs.Values.{firstOf, LossesAre}
 use Rattle.group.specs.declared.GroupLosses.{GroupLosses}
-use Rattle.group.proofs.Losses.{limiteds-length, limiteds-enough}
+use Rattle.group.proofs.Losses.{limiteds-enough}
 use Rattle.steps.specs.Terms.{termsIs, balancedIs}
 use Rattle.steps.specs.declared.bill.Terms.{Terms}
 use Rattle.steps.specs.declared.balance.Balanced.the-variants.{Given, Refused}
 use Rattle.rating.specs.Details.{ratablesAfter}
-use Rattle.rating.proofs.Answers.{passes, terms-are, terms-within, group-few, risks-are, first-limiteds}
+use Rattle.gates.proofs.Given.{passes, terms-are, terms-within, group-few, risks-are, first-limiteds}
 use Rattle.rating.proofs.details.details_of.Statement.{statement}
 use Rattle.rating.proofs.details.details_of.Tie as tie
 
@@ -31,13 +31,13 @@ abbrev file : tie.After-open-rating → List ℕ
 file o = o .before .before .args .file .now
 
 -- past question 12, with the terms
-abbrev opened : tie.After-limiteds2 → tie.After-open-rating
-opened p = p .before .before .before .before .before .before
+abbrev opened : tie.After-ratables-of-arg2 → tie.After-open-rating
+opened p = p .before .before .before .before .before .before .before
 
-abbrev terms : tie.After-limiteds2 → Terms
-terms p = p .before .before .balanced2 .given .0 .0
+abbrev terms : tie.After-ratables-of-arg2 → Terms
+terms p = p .before .before .before .before .balanced2 .given .0 .0
 
-gave : (p : tie.After-limiteds2)
+gave : (p : tie.After-ratables-of-arg2)
     → let s = file (opened p) in
     balancedIs (Given (terms p)) ≡ answer (firstNo (ratingQuestions s)) (termsOf (headerOf s) (lossesIn s))
 gave p =
@@ -66,9 +66,6 @@ enum-known-balanced c = search needs
 enum-known-balanced-2 : tie.Need-enum-known-balanced-2
 enum-known-balanced-2 c = search needs
 
-slice-aggregate-ratables-of : tie.Need-slice-aggregate-ratables-of
-slice-aggregate-ratables-of c = search needs
-
 ratables-of-requires : tie.Need-ratables-of-requires
 ratables-of-requires c κs =
     let s = file (opened c) in
@@ -77,7 +74,7 @@ ratables-of-requires c κs =
 
 returns : tie.Need-returns
 returns c =
-    let o = c .before .before .before .before .before in
+    let o = c .before .before .before .before in
     let s = file o in
     let e : o .open-rating .result .balanced ≡ Refused (c .before .balanced .given .0 .0) = cc in
     let f = refused-failed (firstNo (ratingQuestions s)) (termsOf (headerOf s) (lossesIn s)) (sym (o .open-rating .ensures .balanced) ∙ ap balancedIs e) in
@@ -107,7 +104,6 @@ details-of-spec =
     open-rating-requires
     enum-known-balanced
     enum-known-balanced-2
-    slice-aggregate-ratables-of
     ratables-of-requires
     returns
     returns-2)

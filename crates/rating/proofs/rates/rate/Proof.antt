@@ -16,7 +16,8 @@ use Rattle.group.proofs.Losses.{limiteds-enough}
 use Rattle.steps.specs.Terms.{balancedIs}
 use Rattle.steps.specs.declared.bill.Terms.{Terms}
 use Rattle.steps.specs.declared.balance.Balanced.the-variants.{Given, Refused}
-use Rattle.rating.proofs.Answers.{verdict, refused-says, passes, terms-within, group-few, risks-are, risk-count, given-says, demanded}
+use Rattle.gates.proofs.Given.{passes, terms-within, group-few, risks-are, risk-count}
+use Rattle.rating.proofs.Answers.{verdict, refused-says, given-says, demanded}
 use Rattle.rating.proofs.rates.rate.Statement.{statement}
 use Rattle.rating.proofs.rates.rate.Tie as tie
 
