@@ -1,4 +1,9 @@
-/* The names, types and layouts that retro.h promises, checked as C11 and as C++ when compiled. */
+/*
+ * The names, types and layouts that retro.h promises, checked as C11 and as C++11 when compiled, and
+ * each call by a pointer of exactly its type when linked and run.
+ *
+ * Exit status: 0 all as expected, else the number of the call that answered otherwise.
+ */
 #include "retro.h"
 
 #ifndef __cplusplus
@@ -28,10 +33,34 @@ static_assert(offsetof(retro_group, maximum_mark) == 32, "ninth");
 static_assert(offsetof(retro_group, minimum_mark) == 36, "tenth");
 
 /* The calls as pointers of exactly these types. */
-uint32_t (*const rate)(const uint8_t *, size_t, uint8_t *, size_t, uint32_t *, uint64_t *,
-                       uint64_t *, uint64_t *) = retro_rate;
-uint32_t (*const table)(const uint8_t *, size_t, uint32_t, uint32_t *, uint32_t *) = retro_table;
-retro_group (*const take)(const uint8_t *, size_t, uint8_t *, size_t, uint32_t *,
-                          size_t) = retro_read;
-uint32_t (*const make)(retro_header, const uint8_t *, size_t, const uint32_t *, size_t, uint8_t *,
-                       size_t, size_t *) = retro_write;
+static uint32_t (*const rate)(const uint8_t *, size_t, uint8_t *, size_t, uint32_t *, uint64_t *,
+                              uint64_t *, uint64_t *) = retro_rate;
+static uint32_t (*const table)(const uint8_t *, size_t, uint32_t, uint32_t *,
+                               uint32_t *) = retro_table;
+static retro_group (*const take)(const uint8_t *, size_t, uint8_t *, size_t, uint32_t *,
+                                 size_t) = retro_read;
+static uint32_t (*const make)(retro_header, const uint8_t *, size_t, const uint32_t *, size_t,
+                              uint8_t *, size_t, size_t *) = retro_write;
+
+/* Each call is given nothing, with null pointers where the count is 0. */
+int main(void)
+{
+    uint32_t risks = 0, charge = 0, savings = 0;
+    uint64_t basic = 0, excess = 0, billed = 0;
+    size_t length = 0;
+    retro_header header = {0, 1, 0, 1000, 10000, 0, 0, 0};
+    if (rate(NULL, 0, NULL, 0, &risks, &basic, &excess, &billed) != 1) {
+        return 1;
+    }
+    if (table(NULL, 0, 0, &charge, &savings) != 1) {
+        return 2;
+    }
+    retro_group group = take(NULL, 0, NULL, 0, NULL, 0);
+    if (group.refused != 1 || group.risks != 0 || group.minimum_mark != 0) {
+        return 3;
+    }
+    if (make(header, NULL, 0, NULL, 0, NULL, 0, &length) != 7) {
+        return 4;
+    }
+    return 0;
+}

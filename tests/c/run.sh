@@ -1,6 +1,7 @@
 #!/usr/bin/env bash
-# Builds the billing program against target/staticlib/libretro_c.a and holds what it prints to
-# tests/c/*.expected, whose figures are the second rater's.
+# Builds the programs in C against target/staticlib/libretro_c.a and runs them: layout, what retro.h
+# promises; round_trip, Write and Read of the four-risk group; billing, which is held to
+# tests/c/*.expected, whose figures are the second rater's. Any failure exits non-zero.
 set -euo pipefail
 export LC_ALL=C
 cd "$(dirname "$0")/../.."
@@ -8,16 +9,22 @@ cd "$(dirname "$0")/../.."
 archive=target/staticlib/libretro_c.a
 built=cargo-target/c
 [ -f "$archive" ] || { echo "$archive is missing: run 'rt staticlib retro_c' first" >&2; exit 1; }
+for compiler in gcc g++; do
+    command -v "$compiler" >/dev/null || { echo "$compiler is not installed" >&2; exit 1; }
+done
 mkdir -p "$built"
 strict=(-Wall -Wextra -Werror -pedantic -Iinclude)
 
-gcc -std=c11 "${strict[@]}" -c tests/c/layout.c -o "$built/layout.o"
-if command -v g++ >/dev/null; then
-    g++ -std=c++11 -x c++ "${strict[@]}" -fsyntax-only tests/c/layout.c
-else
-    echo "g++ is not installed: retro.h is not tried as C++"
-fi
+gcc -std=c11 "${strict[@]}" tests/c/layout.c "$archive" -o "$built/layout"
+g++ -std=c++11 -x c++ "${strict[@]}" tests/c/layout.c -x none "$archive" -o "$built/layout++"
+gcc -std=c11 -O2 "${strict[@]}" tests/c/round_trip.c "$archive" -o "$built/round_trip"
 gcc -std=c11 -O2 "${strict[@]}" tests/c/billing.c "$archive" -o "$built/billing"
+
+for language in layout layout++; do
+    "$built/$language" || { echo "$language: call $? has another answer" >&2; exit 1; }
+done
+echo "layout: 4 calls linked and run as C11 and as C++11: as expected"
+"$built/round_trip"
 
 # ran STATUS ARGUMENT..: runs the program, which must end with that status.
 ran() {
