@@ -56,17 +56,20 @@ failure() {
 
 invoice four-risks
 invoice entry-ratio
-failure refused-12 1 examples/refused-12.group
 failure missing 2 examples/no-such-file.group
 failure folder 2 examples
 failure usage 3
 failure usage 3 examples/four-risks.group examples/no-limit.group
 
-# Each refused example with its number, and an invoice that cannot be printed.
-for k in 1 2 3 4 5 6 7 8 9 10 11 12; do
-    ran 1 "examples/refused-$(printf %02d "$k").group"
-    grep -q "is refused with $k: " "$built/said"
-done
+# Each refused example, with its number and question, as tests/c/refused.expected has them.
+for k in 01 02 03 04 05 06 07 08 09 10 11 12; do
+    ran 1 "examples/refused-$k.group"
+    diff /dev/null "$built/printed"
+    cat "$built/said"
+done >"$built/refused"
+diff tests/c/refused.expected "$built/refused"
+
+# An invoice that cannot be printed.
 status=0
 "$built/billing" examples/four-risks.group >/dev/full 2>"$built/said" || status=$?
 [ "$status" -eq 4 ]
