@@ -106,7 +106,9 @@ pub fn crossed_marks(standard_premium: u32) -> Sample {
     }
 }
 
-/// Ten risks with one claim each, c 1.300, without limit and taxes.
+/// The ten risks of document 001, whose losses are in its section E: P 10,000, e 0.358 of it (0.958
+/// less expected losses of 0.600), c 1.300, loss ratio marks 0.900 and 0.200, without limit. The
+/// premiums there are before taxes, so T is 1.0000.
 pub fn ten_risks() -> Sample {
     let claims = [
         1_000, 2_000, 4_000, 6_000, 6_000, 6_000, 6_000, 8_000, 10_000, 11_000,

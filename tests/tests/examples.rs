@@ -64,6 +64,7 @@ fn rated_examples_are_of_their_kind() {
         second_rater::read(&file, 255, 16_065).unwrap()
     };
     assert_eq!(read("four-risks").counts, [0, 2, 1, 3]);
+    assert_eq!(read("ten-risks").counts, [1; 10]);
     assert_eq!(read("entry-ratio").header.mark_kind, 1);
     assert_eq!(read("no-limit").header.loss_limit, 0);
     assert_eq!(read("largest").counts, [63; 255]);
@@ -75,5 +76,25 @@ fn rated_examples_are_of_their_kind() {
          2 4000 4000 4000 7245\n\
          3 7000 5000 5000 8400\n\
          4 13000 12000 9000 13020\n"
+    );
+}
+
+/// The premiums are column 5 of the table in section E of document 001, and their sum is its total.
+#[test]
+fn ten_risks_are_billed_as_document_001_bills_them() {
+    let ten_risks = fs::read_to_string(examples().join("ten-risks.expected")).unwrap();
+    assert_eq!(
+        ten_risks,
+        "group 10 20400000 0 95800\n\
+         1 1000 1000 2000 4640\n\
+         2 2000 2000 2000 4640\n\
+         3 4000 4000 4000 7240\n\
+         4 6000 6000 6000 9840\n\
+         5 6000 6000 6000 9840\n\
+         6 6000 6000 6000 9840\n\
+         7 6000 6000 6000 9840\n\
+         8 8000 8000 8000 12440\n\
+         9 10000 10000 9000 13740\n\
+         10 11000 11000 9000 13740\n"
     );
 }

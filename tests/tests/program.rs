@@ -65,7 +65,7 @@ fn each_example() {
             run += 1;
         }
     }
-    assert_eq!(run, 16);
+    assert_eq!(run, 17);
 }
 
 #[test]

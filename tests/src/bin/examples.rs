@@ -8,7 +8,9 @@ use retro_tests::calls;
 use retro_tests::generator::{
     set, Random, CONVERSION, EDITION, HEADER, MAXIMUM_MARK, RISKS, STANDARD_PREMIUM, TAX,
 };
-use retro_tests::samples::{crossed_marks, four_risks, one_claim_of_one, two_risks_of_ten, Sample};
+use retro_tests::samples::{
+    crossed_marks, four_risks, one_claim_of_one, ten_risks, two_risks_of_ten, Sample,
+};
 use retro_tests::second_rater::{Header, LARGEST_FILE};
 use std::path::PathBuf;
 use std::{env, fs, io};
@@ -40,6 +42,7 @@ fn written(sample: &Sample) -> Vec<u8> {
 fn rated() -> Vec<(&'static str, Vec<u8>)> {
     vec![
         ("four-risks", written(&four_risks())),
+        ("ten-risks", written(&ten_risks())),
         ("entry-ratio", written(&entry_ratio())),
         ("no-limit", written(&no_limit())),
         ("largest", written(&largest())),
