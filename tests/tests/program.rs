@@ -1,11 +1,23 @@
-//! The program target/bin/retro, run on the example files and on inputs of any length.
+//! The program target/bin/retro, run on the example files, on generated files and on inputs of any
+//! length.
 
+use retro_tests::generator::Random;
+use retro_tests::second_rater::Line;
 use retro_tests::{examples, repository, second_rater};
+use std::cmp::Ordering;
+use std::collections::BTreeMap;
 use std::fs::{self, File};
 use std::io::Write;
 use std::path::{Path, PathBuf};
 use std::process::{Command, Output, Stdio};
-use std::{env, process};
+use std::{env, process, thread};
+
+/// Generated files that the program is run on.
+const FILES: u64 = 8_000;
+/// The seed of the first of them.
+const SEED: u64 = 1_942;
+/// How often each answer and each kind of line must occur at least.
+const LEAST: u64 = 10;
 
 fn program() -> PathBuf {
     let program = repository().join("target/bin/retro");
@@ -114,4 +126,75 @@ fn input_through_a_pipe_in_small_parts() {
         drop(pipe);
         assert_eq!(text(child.wait_with_output().unwrap()), expected(&file));
     }
+}
+
+/// The kind of a risk's line: what the limit and the marks did to its losses.
+fn kind(line: &Line) -> &'static str {
+    let cut_off = line.limited < line.total;
+    match (cut_off, line.ratable.cmp(&line.limited)) {
+        (false, Ordering::Less) => "A is L, cut to LG",
+        (false, Ordering::Equal) => "A is L, K is A",
+        (false, Ordering::Greater) => "A is L, raised to LH",
+        (true, Ordering::Less) => "A below L, cut to LG",
+        (true, Ordering::Equal) => "A below L, K is A",
+        (true, Ordering::Greater) => "A below L, raised to LH",
+    }
+}
+
+/// How often something occurred, by its name.
+type Counts = BTreeMap<String, u64>;
+
+/// Runs the program on the files `first`, `first + step` and so on, half of them of sound groups, and
+/// holds all that it prints to the second rater: L, A, K and premium of each risk, or the refusal.
+fn compare_generated(first: u64, step: u64) -> Counts {
+    let mut counts = Counts::new();
+    let mut count = |what: String| *counts.entry(what).or_default() += 1;
+    for k in (first..FILES).step_by(step as usize) {
+        let mut random = Random::new(Random::new(SEED ^ k.rotate_left(32)).word());
+        let file = match k % 2 {
+            0 => random.group().file(),
+            _ => random.file(),
+        };
+        let lines = match second_rater::rate(&file, 4 * second_rater::MOST_RISKS) {
+            Ok(rated) => {
+                count("rated".to_string());
+                rated
+                    .lines
+                    .iter()
+                    .for_each(|line| count(kind(line).to_string()));
+                second_rater::print_rated(&rated)
+            }
+            Err(question) => {
+                count(format!("refused {question}"));
+                second_rater::print_refused(question)
+            }
+        };
+        let printed = printed(&file, &format!("generated-{first}"));
+        assert!(
+            printed == lines,
+            "file {k}: {file:02x?}\nprinted:\n{printed}\nexpected:\n{lines}"
+        );
+    }
+    counts
+}
+
+#[test]
+fn generated_files() {
+    let threads = thread::available_parallelism().map_or(1, usize::from) as u64;
+    let mut counts = Counts::new();
+    thread::scope(|scope| {
+        let workers: Vec<_> = (0..threads)
+            .map(|first| scope.spawn(move || compare_generated(first, threads)))
+            .collect();
+        for worker in workers {
+            for (what, times) in worker.join().expect("a difference") {
+                *counts.entry(what).or_default() += times;
+            }
+        }
+    });
+    // twelve refusals, rated, and six kinds of lines, each often enough
+    println!("{counts:#?}");
+    assert_eq!(counts.len(), 19, "{counts:#?}");
+    assert!(counts.values().all(|&times| times >= LEAST), "{counts:#?}");
+    assert!(counts["rated"] >= FILES / 4, "{counts:#?}");
 }
