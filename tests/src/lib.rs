@@ -4,6 +4,7 @@
 //! - `second_rater`: the second rater, written from document 01 alone.
 //! - `straightforward`: a rater for Rate alone, the benchmark's baseline.
 //! - `samples` and `generator`: known groups, generated groups and damaged files.
+//! - `text`: the text of a group, for people.
 //! - `guard` and `held_calls`: memory between unreadable pages, and the calls held to the second
 //!   rater in it.
 
@@ -14,6 +15,7 @@ pub mod held_calls;
 pub mod samples;
 pub mod second_rater;
 pub mod straightforward;
+pub mod text;
 
 use std::path::{Path, PathBuf};
 

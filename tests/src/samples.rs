@@ -1,18 +1,33 @@
 //! The groups of document 01 and other known groups.
 
-use crate::second_rater::{self, Header};
+use crate::second_rater::{self, Group, Header};
 
 /// A buffer's length that is enough for every call.
 pub const AMPLE: usize = 1 << 20;
 
 /// A group as plain values: the header and the claims of each risk.
-#[derive(Clone, Debug)]
+#[derive(Clone, Debug, PartialEq, Eq)]
 pub struct Sample {
     pub header: Header,
     pub risks: Vec<Vec<u32>>,
 }
 
 impl Sample {
+    /// The sample of a group as Read gives it.
+    pub fn of(group: &Group) -> Sample {
+        let mut claims = &group.claims[..];
+        let mut risks = Vec::new();
+        for &count in &group.counts {
+            let (risk, others) = claims.split_at(count.into());
+            risks.push(risk.to_vec());
+            claims = others;
+        }
+        Sample {
+            header: group.header,
+            risks,
+        }
+    }
+
     pub fn counts(&self) -> Vec<u8> {
         self.risks.iter().map(|claims| claims.len() as u8).collect()
     }

@@ -1,47 +1,54 @@
-//! The second rater as a program.
+//! The second rater as a program, and group files from texts.
 //!
 //! - `grouptext rate [FILE]` prints what `retro` prints.
-//! - `grouptext table R [FILE]` prints the charge and the savings at entry ratio
-//!   R in hundredths.
-//! - `grouptext read [FILE]` prints the eight header values, then one line per
-//!   risk: its count and its claims.
-//! - `grouptext write [FILE]` takes a text (eight header values in file order
-//!   on the first line, then one line of claims per risk, empty for a risk
-//!   without claims) and writes the group file's bytes.
+//! - `grouptext table R [FILE]` prints the charge and the savings at entry ratio R in hundredths.
+//! - `grouptext read [FILE]` prints a group file as a text.
+//! - `grouptext write [TEXT [FILE]]` makes the group file of a text, and says on standard error how
+//!   many risks and claims it has.
 //!
-//! Without FILE the input is standard input. A refused file prints `refused K`
-//! on standard output with exit status 0; a refused `write` prints it on
-//! standard error with exit status 1. Wrong usage has exit status 2.
+//! The text is the same both ways: eight header values in file order on the first line, then a line
+//! for each risk with its claims, or with `-` alone where it has none.
+//!
+//! Without a name, or with `-` for it, input is standard input and output is standard output. A text
+//! with a mistake gives no byte; the file of an output name is written whole or not at all, and one
+//! that was there before then stays as it was.
+//!
+//! Exit status: 0; 1 where a text has a mistake, which is named on standard error with its line, or
+//! `read` is refused, with `refused K` on standard error; 2 for wrong usage, and for input that
+//! cannot be read or output that cannot be written. `rate` and `table` print `refused K` on standard
+//! output with exit status 0, as `retro` does.
 
 #![forbid(unsafe_code)]
 
-use retro_tests::second_rater::{
-    self, Group, Header, LARGEST_FILE, MOST_CLAIMS_PER_RISK, MOST_RISKS,
-};
+use retro_tests::samples::Sample;
+use retro_tests::second_rater::{self, LARGEST_FILE, MOST_CLAIMS_PER_RISK, MOST_RISKS};
+use retro_tests::text;
 use std::env;
 use std::fs;
 use std::io::{self, Read, Write};
-use std::process::ExitCode;
+use std::path::Path;
+use std::process::{self, ExitCode};
 
-const USAGE: &str = "usage: grouptext rate [FILE] | table R [FILE] | read [FILE] | write [FILE]";
+const USAGE: &str =
+    "usage: grouptext rate [FILE] | table R [FILE] | read [FILE] | write [TEXT [FILE]]";
+
+/// The name of standard input and of standard output.
+const STANDARD: &str = "-";
 
 /// Why the program stops without its usual answer.
 enum Stop {
-    /// Wrong usage, or input that cannot be taken in.
+    /// Wrong usage, or input or output that fails.
     Usage(String),
-    /// Write was refused with this number.
-    Refused(u32),
+    /// A text with a mistake, or a file that Read refuses.
+    Refused(String),
 }
 
 fn main() -> ExitCode {
     let arguments: Vec<String> = env::args().skip(1).collect();
     match run(&arguments) {
-        Ok(output) => match io::stdout().write_all(&output) {
-            Ok(()) => ExitCode::SUCCESS,
-            Err(_) => ExitCode::from(2),
-        },
-        Err(Stop::Refused(k)) => {
-            eprint!("{}", second_rater::print_refused(k));
+        Ok(()) => ExitCode::SUCCESS,
+        Err(Stop::Refused(text)) => {
+            eprintln!("{text}");
             ExitCode::from(1)
         }
         Err(Stop::Usage(text)) => {
@@ -51,129 +58,110 @@ fn main() -> ExitCode {
     }
 }
 
-/// Runs one subcommand and gives the bytes for standard output.
-fn run(arguments: &[String]) -> Result<Vec<u8>, Stop> {
+/// Runs one subcommand.
+fn run(arguments: &[String]) -> Result<(), Stop> {
     let words: Vec<&str> = arguments.iter().map(String::as_str).collect();
     match words[..] {
-        ["rate"] => rate(&input(None)?),
-        ["rate", path] => rate(&input(Some(path))?),
-        ["table", r] => table(r, None),
-        ["table", r, path] => table(r, Some(path)),
-        ["read"] => read(&input(None)?),
-        ["read", path] => read(&input(Some(path))?),
-        ["write"] => write(&input(None)?),
-        ["write", path] => write(&input(Some(path))?),
+        ["rate"] => rate(STANDARD),
+        ["rate", file] => rate(file),
+        ["table", r] => table(r, STANDARD),
+        ["table", r, file] => table(r, file),
+        ["read"] => read(STANDARD),
+        ["read", file] => read(file),
+        ["write"] => write(STANDARD, STANDARD),
+        ["write", text] => write(text, STANDARD),
+        ["write", text, file] => write(text, file),
         _ => Err(Stop::Usage(USAGE.to_string())),
     }
 }
 
-/// The whole input: the file at the path, or standard input.
-fn input(path: Option<&str>) -> Result<Vec<u8>, Stop> {
-    let bytes = match path {
-        Some(path) => fs::read(path),
-        None => {
-            let mut bytes = Vec::new();
-            io::stdin().read_to_end(&mut bytes).map(|_| bytes)
-        }
+/// The whole input of this name.
+fn input(name: &str) -> Result<Vec<u8>, Stop> {
+    let bytes = if name == STANDARD {
+        let mut bytes = Vec::new();
+        io::stdin().read_to_end(&mut bytes).map(|_| bytes)
+    } else {
+        fs::read(name)
     };
-    bytes.map_err(|error| Stop::Usage(format!("cannot read the input: {error}")))
+    bytes.map_err(|error| Stop::Usage(format!("{name} cannot be read: {error}")))
 }
 
-fn rate(file: &[u8]) -> Result<Vec<u8>, Stop> {
-    let text = match second_rater::rate(file, 4 * MOST_RISKS) {
+/// Writes the whole output of this name.
+fn output(name: &str, bytes: &[u8]) -> Result<(), Stop> {
+    let written = if name == STANDARD {
+        let mut standard = io::stdout().lock();
+        standard.write_all(bytes).and_then(|()| standard.flush())
+    } else {
+        whole_file(Path::new(name), bytes)
+    };
+    written.map_err(|error| Stop::Usage(format!("{name} cannot be written: {error}")))
+}
+
+/// Writes a file whole or not at all: under another name beside it, which then becomes its own.
+fn whole_file(path: &Path, bytes: &[u8]) -> io::Result<()> {
+    // the file itself where the path is a link to one
+    let path = fs::canonicalize(path).unwrap_or_else(|_| path.to_path_buf());
+    if path.exists() && !path.is_file() {
+        // a device or a pipe is not to be replaced by a file
+        return fs::write(path, bytes);
+    }
+    let name = path.file_name().ok_or(io::ErrorKind::NotFound)?;
+    let other = format!(".{}.{}", name.to_string_lossy(), process::id());
+    let beside = path.with_file_name(other);
+    let written = fs::write(&beside, bytes).and_then(|()| fs::rename(&beside, &path));
+    if written.is_err() {
+        // it may not be there at all
+        let _ = fs::remove_file(&beside);
+    }
+    written
+}
+
+fn rate(file: &str) -> Result<(), Stop> {
+    let lines = match second_rater::rate(&input(file)?, 4 * MOST_RISKS) {
         Ok(rated) => second_rater::print_rated(&rated),
         Err(k) => second_rater::print_refused(k),
     };
-    Ok(text.into_bytes())
+    output(STANDARD, lines.as_bytes())
 }
 
-fn table(r: &str, path: Option<&str>) -> Result<Vec<u8>, Stop> {
-    let r: u32 = number(r)?;
-    let text = match second_rater::table(&input(path)?, r) {
+fn table(r: &str, file: &str) -> Result<(), Stop> {
+    let r = r
+        .parse()
+        .map_err(|_| Stop::Usage(format!("{r} is not an entry ratio in hundredths\n{USAGE}")))?;
+    let line = match second_rater::table(&input(file)?, r) {
         Ok((charge, savings)) => format!("{charge} {savings}\n"),
         Err(k) => second_rater::print_refused(k),
     };
-    Ok(text.into_bytes())
+    output(STANDARD, line.as_bytes())
 }
 
-fn read(file: &[u8]) -> Result<Vec<u8>, Stop> {
-    let text = match second_rater::read(file, MOST_RISKS, MOST_RISKS * MOST_CLAIMS_PER_RISK) {
-        Ok(group) => print_group(&group),
-        Err(k) => second_rater::print_refused(k),
-    };
-    Ok(text.into_bytes())
+fn read(file: &str) -> Result<(), Stop> {
+    let most_claims = MOST_RISKS * MOST_CLAIMS_PER_RISK;
+    let group = second_rater::read(&input(file)?, MOST_RISKS, most_claims).map_err(refused)?;
+    output(STANDARD, text::print(&Sample::of(&group)).as_bytes())
 }
 
-/// The header values on one line, then each risk's count and claims.
-fn print_group(group: &Group) -> String {
-    let h = &group.header;
-    let mut text = format!(
-        "{} {} {} {} {} {} {} {}\n",
-        h.loss_limit,
-        h.standard_premium,
-        h.expense,
-        h.conversion,
-        h.tax,
-        h.mark_kind,
-        h.maximum_mark,
-        h.minimum_mark
+fn write(text: &str, file: &str) -> Result<(), Stop> {
+    let sample =
+        text::parse(&input(text)?).map_err(|mistake| Stop::Refused(mistake.to_string()))?;
+    let (counts, claims) = (sample.counts(), sample.claims());
+    let bytes =
+        second_rater::write(&sample.header, &counts, &claims, LARGEST_FILE).map_err(refused)?;
+    output(file, &bytes)?;
+    let (risks, claims) = (
+        counted(counts.len(), "risk"),
+        counted(claims.len(), "claim"),
     );
-    let mut first = 0;
-    for &count in &group.counts {
-        text.push_str(&count.to_string());
-        let after = first + usize::from(count);
-        for claim in &group.claims[first..after] {
-            text.push_str(&format!(" {claim}"));
-        }
-        text.push('\n');
-        first = after;
-    }
-    text
+    eprintln!("{risks} and {claims} written");
+    Ok(())
 }
 
-fn write(text: &[u8]) -> Result<Vec<u8>, Stop> {
-    let text = std::str::from_utf8(text)
-        .map_err(|_| Stop::Usage("the description is not text".to_string()))?;
-    let mut lines = text.lines();
-    let header = header_values(lines.next().unwrap_or(""))?;
-    let mut counts = Vec::new();
-    let mut claims = Vec::new();
-    for line in lines {
-        let risk = numbers(line)?;
-        // A count above 63 does not fit the file, so 255 stands for any above.
-        counts.push(u8::try_from(risk.len()).unwrap_or(u8::MAX));
-        claims.extend(risk);
-    }
-    second_rater::write(&header, &counts, &claims, LARGEST_FILE).map_err(Stop::Refused)
+/// So many of them, in words.
+fn counted(number: usize, what: &str) -> String {
+    let ending = if number == 1 { "" } else { "s" };
+    format!("{number} {what}{ending}")
 }
 
-/// The eight header values of the description's first line.
-fn header_values(line: &str) -> Result<Header, Stop> {
-    match numbers(line)?[..] {
-        [loss_limit, standard_premium, expense, conversion, tax, mark_kind, maximum_mark, minimum_mark] => {
-            Ok(Header {
-                loss_limit,
-                standard_premium,
-                expense,
-                conversion,
-                tax,
-                mark_kind,
-                maximum_mark,
-                minimum_mark,
-            })
-        }
-        _ => Err(Stop::Usage(
-            "the first line must have eight header values".to_string(),
-        )),
-    }
-}
-
-/// The numbers of a line, separated by spaces.
-fn numbers(line: &str) -> Result<Vec<u32>, Stop> {
-    line.split_whitespace().map(number).collect()
-}
-
-fn number(word: &str) -> Result<u32, Stop> {
-    word.parse()
-        .map_err(|_| Stop::Usage(format!("not a whole number of 32 bits: {word}")))
+fn refused(k: u32) -> Stop {
+    Stop::Refused(second_rater::print_refused(k).trim_end().to_string())
 }

@@ -1,0 +1,159 @@
+//! The text of a group: there and back, and each mistake by its line, field and limit.
+
+use retro_tests::generator::Random;
+use retro_tests::samples::{four_risks, Sample};
+use retro_tests::second_rater;
+use retro_tests::text::{parse, print};
+
+const HEADER: &str = "5000 10000 2000 1100 10500 0 900 200";
+
+/// What is said to a text with a mistake.
+fn mistake(text: &str) -> String {
+    parse(text.as_bytes()).unwrap_err().to_string()
+}
+
+#[test]
+fn text_of_the_four_risks() {
+    let text = format!("{HEADER}\n-\n3000 1000\n7000\n5000 6000 2000\n");
+    assert_eq!(print(&four_risks()), text);
+    assert_eq!(parse(text.as_bytes()), Ok(four_risks()));
+}
+
+#[test]
+fn generated_groups_there_and_back() {
+    let mut random = Random::new(1_930);
+    let mut without_claims = 0;
+    for _ in 0..2_000 {
+        let sample = random.group();
+        let text = print(&sample);
+        assert_eq!(parse(text.as_bytes()).as_ref(), Ok(&sample));
+        let group = second_rater::read(&sample.file(), 255, 16_065).unwrap();
+        assert_eq!(Sample::of(&group), sample);
+        without_claims += sample.risks.iter().filter(|risk| risk.is_empty()).count();
+    }
+    assert!(without_claims > 1_000);
+}
+
+/// A text is taken if and only if Write takes its values.
+#[test]
+fn limits_are_those_of_write() {
+    let mut random = Random::new(1_931);
+    let mut taken = 0;
+    for _ in 0..4_000 {
+        let values = random.values();
+        let counted: usize = values.counts.iter().map(|&count| usize::from(count)).sum();
+        if counted != values.claims.len() {
+            // no text has other counts than its claims
+            continue;
+        }
+        let written = second_rater::write(&values.header, &values.counts, &values.claims, 1 << 20);
+        let sample = Sample::of(&second_rater::Group {
+            header: values.header,
+            counts: values.counts,
+            claims: values.claims,
+        });
+        let parsed = parse(print(&sample).as_bytes());
+        assert_eq!(parsed.is_ok(), written.is_ok(), "{parsed:?}");
+        taken += usize::from(written.is_ok());
+    }
+    assert!((1_000..3_000).contains(&taken), "{taken}");
+}
+
+#[test]
+fn each_header_value_has_its_limits() {
+    let header = [5_000, 10_000, 2_000, 1_100, 10_500, 0, 900, 200];
+    let limits = [
+        ("loss limit", 0, 1_048_575, "dollars, 0 for no limit"),
+        ("standard premium", 1, 4_194_303, "dollars"),
+        ("expense provision", 0, 1_048_575, "dollars"),
+        ("loss conversion factor", 1_000, 2_000, "thousandths"),
+        ("tax multiplier", 10_000, 20_000, "ten-thousandths"),
+        ("mark kind", 0, 1, "0 loss ratios, 1 entry ratios"),
+        ("maximum mark", 0, 6_000, "thousandths"),
+        ("minimum mark", 0, 6_000, "thousandths"),
+    ];
+    for (k, (name, least, most, unit)) in limits.into_iter().enumerate() {
+        let with = |word: String| {
+            let mut words = header.map(|value: u32| value.to_string());
+            words[k] = word;
+            format!("{}\n1\n", words.join(" "))
+        };
+        let limit = format!("a whole number from {least} to {most} ({unit})");
+        for value in [least, most] {
+            assert!(parse(with(value.to_string()).as_bytes()).is_ok());
+        }
+        for word in [
+            (i64::from(least) - 1).to_string(),
+            (most + 1).to_string(),
+            "18446744073709551616".to_string(),
+            format!("+{least}"),
+            "1.05".to_string(),
+            "5,000".to_string(),
+            "-".to_string(),
+            "x".to_string(),
+        ] {
+            let said = mistake(&with(word.clone()));
+            assert_eq!(said, format!("line 1, {name}: {word} is not {limit}"));
+        }
+        let words = header.map(|value| value.to_string());
+        let said = mistake(&format!("{}\n1\n", words[..k].join(" ")));
+        assert_eq!(said, format!("line 1, {name}: missing; {limit}"));
+    }
+    assert_eq!(
+        mistake(&format!("{HEADER} 4\n1\n")),
+        "line 1, header: 9 values; the header has 8"
+    );
+    assert_eq!(
+        mistake(""),
+        "line 1, loss limit: missing; a whole number from 0 to 1048575 (dollars, 0 for no limit)"
+    );
+}
+
+#[test]
+fn blank_line_is_a_mistake_wherever_it_stands() {
+    let said = |line| {
+        let risk = line - 1;
+        format!(
+            "line {line}, risk {risk}: a blank line; a risk without claims is a line with - alone"
+        )
+    };
+    assert_eq!(mistake(&format!("{HEADER}\n\n")), said(2));
+    assert_eq!(mistake(&format!("{HEADER}\n\n7000\n")), said(2));
+    assert_eq!(mistake(&format!("{HEADER}\n7000\n \n5\n")), said(3));
+    assert_eq!(mistake(&format!("{HEADER}\n7000\n-\n\n")), said(4));
+    assert!(mistake(&format!("\n{HEADER}\n7000\n")).starts_with("line 1, loss limit: missing"));
+}
+
+#[test]
+fn claims_and_risks_have_their_limits() {
+    let limit = "a whole number from 0 to 1048575 (dollars)";
+    for word in ["1048576", "-1", "7000.50", "none"] {
+        assert_eq!(
+            mistake(&format!("{HEADER}\n-\n5 {word} 6\n")),
+            format!("line 3, claim 2 of risk 2: {word} is not {limit}")
+        );
+    }
+    assert_eq!(
+        mistake(&format!("{HEADER}\n- 5\n")),
+        format!("line 2, claim 1 of risk 1: - is not {limit}")
+    );
+    assert!(parse(format!("{HEADER}\n{}\n", ["1"; 63].join(" ")).as_bytes()).is_ok());
+    assert_eq!(
+        mistake(&format!("{HEADER}\n-\n{}\n", ["1"; 64].join(" "))),
+        "line 3, risk 2: 64 claims; a risk has 0 to 63"
+    );
+    assert!(parse(format!("{HEADER}\n{}", "-\n".repeat(255)).as_bytes()).is_ok());
+    assert_eq!(
+        mistake(&format!("{HEADER}\n{}", "-\n".repeat(256))),
+        "line 257, risk 256: a group has 1 to 255 risks"
+    );
+    assert_eq!(
+        mistake(HEADER),
+        "line 2, risk 1: missing; a group has 1 to 255 risks"
+    );
+    let said = parse(b"5000 10000 2000 1100 10500 0 900 200\n-\n7\xff\n").unwrap_err();
+    assert_eq!(
+        said.to_string(),
+        "line 3, text: not of digits, spaces and - alone"
+    );
+}
