@@ -1,7 +1,7 @@
 //! The program `grouptext`.
 
 use retro_tests::samples::{four_risks, largest, one_claim_of_one, ten_risks};
-use retro_tests::text;
+use retro_tests::{repository, text};
 use std::io::Write;
 use std::path::{Path, PathBuf};
 use std::process::{Command, Output, Stdio};
@@ -155,6 +155,19 @@ fn write_of_a_text_with_a_mistake_gives_no_byte() {
         assert!(output.stdout.is_empty());
         assert_eq!(String::from_utf8(output.stderr).unwrap(), mistake);
     }
+}
+
+/// README's text, its message and its mistake are those of the program.
+#[test]
+fn readme_shows_what_write_takes_and_says() {
+    let readme = fs::read_to_string(repository().join("README.md")).unwrap();
+    let typed = FOUR_RISKS.replace('\n', "\\n");
+    assert!(readme.contains(&format!("printf '{typed}' > my.text\n")));
+    let (_, said) = written(FOUR_RISKS.as_bytes());
+    assert!(readme.contains(&format!("`{}`", said.trim_end())));
+    let mistaken = FOUR_RISKS.replace("10500", "1.05");
+    let said = String::from_utf8(run(&["write"], mistaken.as_bytes()).stderr).unwrap();
+    assert!(readme.contains(&format!("`{}`", said.trim_end())));
 }
 
 /// A folder of a test's own, empty.
