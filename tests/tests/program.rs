@@ -13,11 +13,11 @@ use std::process::{Command, Output, Stdio};
 use std::{env, process, thread};
 
 /// Generated files that the program is run on.
-const FILES: u64 = 8_000;
+const FILES: u64 = 5_000;
 /// The seed of the first of them.
 const SEED: u64 = 1_942;
 /// How often each answer and each kind of line must occur at least.
-const LEAST: u64 = 10;
+const LEAST: u64 = 5;
 
 fn program() -> PathBuf {
     let program = repository().join("target/bin/retro");
