@@ -5,10 +5,11 @@
 set -euo pipefail
 cd "$(dirname "$0")/.."
 
-# The tests run as they are written: RETRO_FILES, RETRO_SEED, RETRO_GUARD_FAULT and the like make
-# them longer or shorter or leave them out, so none is taken over from outside.
-for name in "${!RETRO_@}"; do
-    unset "$name"
+# The tests run as they are written. RETRO_FILES, RETRO_SEED and RETRO_GUARD_FAULT change what they
+# try, and CARGO_TARGET_..._RUNNER is a program that Cargo would run in a test's place: no such
+# variable is taken over from outside.
+for name in "${!RETRO_@}" "${!CARGO_TARGET_@}"; do
+    [ "$name" = CARGO_TARGET_DIR ] || unset "$name"
 done
 for compiler in cargo gcc g++; do
     command -v "$compiler" >/dev/null || { echo "$compiler is not installed" >&2; exit 1; }
