@@ -15,7 +15,7 @@ use Rattle.plan.specs.Marks.{LG, LH}
 use Rattle.plan.specs.Ratable.{SX, SS, ratable}
 use Rattle.plan.specs.Basic.{basicPremium, excessCharge}
 use Rattle.plan.specs.Premium.{billRounding, billWith}
-use Rattle.plan.specs.Demand3.{taxedExpensesAndLosses}
+use Rattle.plan.specs.Demand3.{totalWith, taxedExpensesAndLosses}
 use Rattle.plan.specs.Table.{chargeSum, savingsSum, charge, savings}
 use Rattle.plan.specs.Calls.{Answer, refused, given, Rated, ratedOf, rate, Tabled, table, Group, read, write}
 
@@ -131,15 +131,16 @@ FourCase =
     × (totals fourFile ≡ 0 ∷ 4000 ∷ 7000 ∷ 13000 ∷ [])
     × (limiteds fourFile ≡ 0 ∷ 4000 ∷ 5000 ∷ 12000 ∷ [])
     × (ratables fourFile ≡ 2000 ∷ 4000 ∷ 5000 ∷ 9000 ∷ [])
-    -- '1.05 × (8,000 + 24,000) = 33,600'
+    -- '1.05 × (8,000 + 24,000) = 33,600', and the total of the unrounded premiums
     × (taxedExpensesAndLosses fourFile ≡ 10000000 * 4 * 33600)
+    × (totalWith fourFile (pos 6700000) 3300000 ≡ pos (10000000 * 4 * 33600))
     × (read fourFile 4 6 ≡ given four)
     × (write four 34 ≡ given fourFile)
     × (rate fourFile 15 ≡ refused 13)
 
 fourCase : FourCase
-unfolding bytesOf number bit field claimAt pastClaim slotsOfClaim claimFits countAt firstClaim limitedOf LG LH SX SS ratable basicPremium excessCharge nearest billRounding billWith ratedOf rate taxedExpensesAndLosses read write
-fourCase = (refl, refl, refl, refl, refl, refl, refl, refl, refl)
+unfolding bytesOf number bit field claimAt pastClaim slotsOfClaim claimFits countAt firstClaim limitedOf LG LH SX SS ratable basicPremium excessCharge nearest billRounding billWith ratedOf rate totalWith taxedExpensesAndLosses read write
+fourCase = (refl, refl, refl, refl, refl, refl, refl, refl, refl, refl)
 
 -- 'Table on it: r 0 gives 1000 and 0; r 100 gives 321 and 321; r 200 gives 71 and 1071; r 300 gives 0 and 2000.' And r 25, where
 -- 812.5 and 62.5 thousandths are exact halves
@@ -162,9 +163,12 @@ OtherCases =
     Written thirds thirdsFile
     × (lg thirdsFile ≡ 0)
     × (rate thirdsFile 12 ≡ rates 3 (pos 1000) 0 0 (0 ∷ 0 ∷ 0 ∷ []))
+    × (totalWith thirdsFile (pos 1000) 0 ≡ pos (10000000 * 3 * 1))
+    × (taxedExpensesAndLosses thirdsFile ≡ 10000000 * 3 * 1)
     -- 'billed 1 and 1, the exact total 1'
     × Written halves halvesFile
     × (rate halvesFile 8 ≡ rates 2 (pos 1000) 0 2 (1 ∷ 1 ∷ []))
+    × (totalWith halvesFile (pos 1000) 0 ≡ pos (10000000 * 2 * 1))
     × (taxedExpensesAndLosses halvesFile ≡ 10000000 * 2 * 1)
     -- 'with c 2.000 refused 12; with c 1.000 M is 0, billed 10 and 10'
     × Written (tens 2000) tensFile2000
@@ -184,9 +188,9 @@ OtherCases =
     × (lg limitsFile ≡ 30000)
 
 otherCases : OtherCases
-unfolding bytesOf number bit field claimAt pastClaim slotsOfClaim claimFits countAt firstClaim limitedOf LG LH SX SS ratable basicPremium excessCharge nearest billRounding billWith ratedOf rate taxedExpensesAndLosses
+unfolding bytesOf number bit field claimAt pastClaim slotsOfClaim claimFits countAt firstClaim limitedOf LG LH SX SS ratable basicPremium excessCharge nearest billRounding billWith ratedOf rate totalWith taxedExpensesAndLosses
 otherCases =
-    (refl, refl, refl, refl, refl, refl, refl, refl, refl, refl, refl, refl, refl, refl, refl, refl, refl, refl, refl)
+    (refl, refl, refl, refl, refl, refl, refl, refl, refl, refl, refl, refl, refl, refl, refl, refl, refl, refl, refl, refl, refl, refl)
 
 -- all of them: 'gathered as one checked list'
 pub provedCases : FourCase × TableCase × OtherCases

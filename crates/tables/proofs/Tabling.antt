@@ -19,6 +19,7 @@ use Rattle.plan.specs.Calls.{Answer, answer, Tabled, table}
 use Rattle.plan.proofs.Sums.{sum-map}
 use Rattle.plan.proofs.Questions.{after-gate, answered, loss-sound}
 use Rattle.plan.proofs.FileSizes.{group-bounds}
+use Rattle.plan.proofs.Curve.{savings-charge}
 use Rattle.plan.proofs.TableSizes.{losses-le, charge-le, savings-le, charge-lt, savings-lt}
 use Rattle.tables.specs.Tables.{ThousandthsBounds}
 
@@ -113,3 +114,7 @@ module _ {s : List ℕ} {r n sa : ℕ} {limiteds : List ℕ} (x : AtHand s r n s
   pub savings-is : {v : ℕ} → v ≡ savingsSum (lossesIn s) r → nearest (1000 * v) (2 * (50 * n * sa)) ≡ savings (lossesIn s) r
   unfolding savings
   savings-is e = ap₂ (λ (v d : ℕ). nearest (1000 * v) d) e divisor-is
+
+  -- the two lie on one curve, after rounding too
+  pub on-curve : {v w : ℕ} → v ≡ charge (lossesIn s) r → w ≡ savings (lossesIn s) r → w + 1000 ≡ v + 10 * r
+  on-curve e f = omega (arith, e, f, savings-charge (lossesIn s) r (bounds .sound .risks) some)

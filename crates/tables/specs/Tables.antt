@@ -17,3 +17,8 @@ pub record ThousandthsBounds (x half divisor : ℕ) : Type 0 where
 abbrev pub ratiosAre : Tabled → plan.Answer plan.Tabled
 ratiosAre (answers.Given t) = plan.given (record { charge = t .charge; savings = t .savings })
 ratiosAre (answers.Refused k) = plan.refused k
+
+-- formula (9) of document 001, S = X + r − 1, of the thousandths that a call of Table gives at r hundredths
+abbrev pub OnCurve : Tabled → ℕ → Type 0
+OnCurve (answers.Given t) r = t .savings + 1000 ≡ t .charge + 10 * r
+OnCurve (answers.Refused k) r = Unit {0}

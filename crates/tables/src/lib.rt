@@ -3,7 +3,7 @@ ghost use mathlib.Core.Path.{_≡_};
 ghost use Prim.Native.Nat.{_*_};
 ghost use Rattle.plan.specs.Arithmetic.{nearest};
 ghost use Rattle.plan.specs.Calls as plan;
-ghost use Rattle.tables.specs.Tables.{ThousandthsBounds, ratiosAre};
+ghost use Rattle.tables.specs.Tables.{ThousandthsBounds, ratiosAre, OnCurve};
 use gates::open_losses;
 use group::Verdict;
 use steps::spread::spread_of;
@@ -33,7 +33,8 @@ fn thousandths_of(x: u64, half: u64, divisor: u64) -> u32
 
 // Table of a file of whatever bytes at an entry ratio of whatever hundredths.
 pub fn table(file: &[u8], r: u32) -> Tabled
-    ensures { λ t. ⌜ ratiosAre t ≡ plan.table (now (file .entry)) r ⌝ }
+    ensures says { λ t. ⌜ ratiosAre t ≡ plan.table (now (file .entry)) r ⌝ }
+    ensures curve { λ t. ⌜ OnCurve t r ⌝ }
 {
     let opened = open_losses(file);
     let verdict = opened.verdict;

@@ -21,7 +21,7 @@ returns c =
     let r = c .before .before .before in
     let a = r .before .before .args in
     let e : r .table .result ≡ Refused (c .before .k .given .0 .0) = cc in
-    table-refused (a .file .now) (a .entry-ratio) _ (a .charge .now) (a .savings .now) (sym (ap ratiosAre e) ∙ r .table .ensures)
+    table-refused (a .file .now) (a .entry-ratio) _ (a .charge .now) (a .savings .now) (sym (ap ratiosAre e) ∙ r .table .ensures .0)
 
 returns-2 : tie.Need-returns-2
 returns-2 c =
@@ -29,7 +29,7 @@ returns-2 c =
     let a = r .before .before .args in
     let t = c .before .t .given .0 .0 in
     let e : r .table .result ≡ Given t = cc in
-    table-given (a .file .now) (a .entry-ratio) t (a .charge .now) (a .savings .now) (sym (ap ratiosAre e) ∙ r .table .ensures)
+    table-given (a .file .now) (a .entry-ratio) t (a .charge .now) (a .savings .now) (sym (ap ratiosAre e) ∙ r .table .ensures .0)
 
 pub retro-table-spec : {M : Type 1} → statement M
 retro-table-spec = tie.close (tie.spec table-requires enum-known-k enum-known-t returns returns-2)

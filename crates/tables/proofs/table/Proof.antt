@@ -14,7 +14,7 @@ use Rattle.group.specs.Values.{verdictIs}
 use Rattle.group.specs.declared.Verdict.the-variants.{Passed, Failed}
 use Rattle.group.proofs.Losses.{limiteds-are, limiteds-enough}
 use Rattle.tables.proofs.Tabling.{AtHand, tabled, risks-few, entry-fits, half-fits, charge-sum, savings-sum, charge-bounds}
-use Rattle.tables.proofs.Tabling.{savings-bounds, charge-is, savings-is}
+use Rattle.tables.proofs.Tabling.{savings-bounds, charge-is, savings-is, on-curve}
 use Rattle.tables.proofs.table.Statement.{statement}
 use Rattle.tables.proofs.table.Tie as tie
 
@@ -74,7 +74,7 @@ enum-told c = search needs
 returns : tie.Need-returns
 returns c =
     let a = start (opened (c .before)) .args in
-    tabled (a .file .now) (a .r) (passes (c .before)) (lt-leb _ _ (c .if1 .taken))
+    (tabled (a .file .now) (a .r) (passes (c .before)) (lt-leb _ _ (c .if1 .taken)), tt)
 
 mul-entry : tie.Need-mul-entry
 mul-entry c = omega (arith, entry-fits (at-hand c))
@@ -115,7 +115,7 @@ returns-2 c =
     let o = c .before .before .before in
     let a = start o .args in
     let e : o .open-losses .result .verdict ≡ Failed (c .before .verdict .given .0 .0) = cc in
-    tabled (a .file .now) (a .r) (sym (o .open-losses .ensures .verdict) ∙ ap verdictIs e) refl
+    (tabled (a .file .now) (a .r) (sym (o .open-losses .ensures .verdict) ∙ ap verdictIs e) refl, tt)
 
 returns-3 : tie.Need-returns-3
 returns-3 c =
@@ -123,8 +123,10 @@ returns-3 c =
     let x = at-hand (ready s) in
     let a = ready-start s .args in
     let v = c .before .thousandths-of .ensures ∙ charge-is x (above-is s) in
-    let w = c .thousandths-of2 .ensures ∙ savings-is x (below-is s) in
-    (λ i. given (record { charge = v i; savings = w i })) ∙ tabled (a .file .now) (a .r) (x .passes) (le-leb _ _ (x .ratio))
+    let w = c .thousandths-of2 .ensures ∙ savings-is x (below-is s) in (
+      (λ i. given (record { charge = v i; savings = w i })) ∙ tabled (a .file .now) (a .r) (x .passes) (le-leb _ _ (x .ratio)),
+      on-curve x v w,
+    )
 
 pub table-spec : {M : Type 1} → statement M
 table-spec =
