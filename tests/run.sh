@@ -1,7 +1,8 @@
 #!/usr/bin/env bash
 # Everything that is tested beside the proofs: the exported calls against the second rater, the
-# program retro, the example files and the programs in C. It needs target/bin/retro, which rt ci and
-# rt check leave there; the archive is made here. Any failure exits non-zero, a missing compiler too.
+# program retro, the example files, the programs in C, and that the gate's own checks can fail. It
+# needs target/bin/retro, which rt ci and rt check leave there; the archive is made here. Any failure
+# exits non-zero, a missing compiler too.
 set -euo pipefail
 cd "$(dirname "$0")/.."
 
@@ -15,6 +16,7 @@ for compiler in cargo gcc g++; do
     command -v "$compiler" >/dev/null || { echo "$compiler is not installed" >&2; exit 1; }
 done
 
+.ci/test-checks
 rt staticlib retro_c
 cargo build --offline --release
 cargo test --offline --release
