@@ -1,0 +1,2 @@
+-- What is known of the bytes read.
+pub mod Input
