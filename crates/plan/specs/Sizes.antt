@@ -1,5 +1,5 @@
--- Numbers by name. The first three are document 01's own, and the questions and step 6 are stated with them. The others are
--- bounds that follow from the file's widths and from passed questions, as the laws show.
+-- Numbers by name. The first four are document 01's own; questions 6 and 14 and step 6 are stated with the first three. The
+-- others are bounds that follow from the file's widths and from passed questions, as the laws show.
 use Prim.Native.Nat.{ℕ}
 
 -- ---- document 01's numbers
