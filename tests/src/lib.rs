@@ -28,3 +28,14 @@ pub fn repository() -> PathBuf {
 pub fn examples() -> PathBuf {
     repository().join("examples")
 }
+
+/// The program `retro`, which is built before the tests run.
+pub fn program() -> PathBuf {
+    let program = repository().join("target/bin/retro");
+    assert!(
+        program.is_file(),
+        "{} is missing: run `rt check retro` in the repository's root first",
+        program.display()
+    );
+    program
+}

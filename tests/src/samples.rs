@@ -42,6 +42,13 @@ impl Sample {
     }
 }
 
+/// What the document prints for its four-risk group.
+pub const FOUR_RISKS_PRINTED: &str = "group 4 6700000 3300000 33600\n\
+     1 0 0 2000 4935\n\
+     2 4000 4000 4000 7245\n\
+     3 7000 5000 5000 8400\n\
+     4 13000 12000 9000 13020\n";
+
 /// The four-risk group of the document.
 pub fn four_risks() -> Sample {
     Sample {

@@ -1,6 +1,7 @@
 //! The example files are what their generator writes, and their expected lines are what the second
 //! rater says.
 
+use retro_tests::samples::FOUR_RISKS_PRINTED;
 use retro_tests::{examples, second_rater};
 use std::collections::BTreeMap;
 use std::path::Path;
@@ -69,14 +70,7 @@ fn rated_examples_are_of_their_kind() {
     assert_eq!(read("no-limit").header.loss_limit, 0);
     assert_eq!(read("largest").counts, [63; 255]);
     let four_risks = fs::read_to_string(examples().join("four-risks.expected")).unwrap();
-    assert_eq!(
-        four_risks,
-        "group 4 6700000 3300000 33600\n\
-         1 0 0 2000 4935\n\
-         2 4000 4000 4000 7245\n\
-         3 7000 5000 5000 8400\n\
-         4 13000 12000 9000 13020\n"
-    );
+    assert_eq!(four_risks, FOUR_RISKS_PRINTED);
 }
 
 /// The premiums are column 5 of the table in section E of document 001, and their sum is its total.

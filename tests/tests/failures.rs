@@ -2,7 +2,7 @@
 //! argument is given: no refusal, and a line on standard error. An exit status of their own these
 //! have not, since a program in Rattle has none to give (docs/DECISIONS.md).
 
-use retro_tests::{examples, repository};
+use retro_tests::{examples, program, repository};
 use std::fs::{self, File, OpenOptions};
 use std::os::unix::process::ExitStatusExt;
 use std::path::{Path, PathBuf};
@@ -10,16 +10,6 @@ use std::process::{Command, Output, Stdio};
 use std::{env, process};
 
 const SIGPIPE: i32 = 13;
-
-fn program() -> PathBuf {
-    let program = repository().join("target/bin/retro");
-    assert!(
-        program.is_file(),
-        "{} is missing: run `rt check retro` in the repository's root first",
-        program.display()
-    );
-    program
-}
 
 fn example(name: &str) -> File {
     File::open(examples().join(name)).unwrap()

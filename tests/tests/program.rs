@@ -3,12 +3,12 @@
 
 use retro_tests::generator::Random;
 use retro_tests::second_rater::Line;
-use retro_tests::{examples, repository, second_rater};
+use retro_tests::{examples, program, second_rater};
 use std::cmp::Ordering;
 use std::collections::BTreeMap;
 use std::fs::{self, File};
 use std::io::Write;
-use std::path::{Path, PathBuf};
+use std::path::Path;
 use std::process::{Command, Output, Stdio};
 use std::{env, process, thread};
 
@@ -18,16 +18,6 @@ const FILES: u64 = 5_000;
 const SEED: u64 = 1_942;
 /// How often each answer and each kind of line must occur at least.
 const LEAST: u64 = 5;
-
-fn program() -> PathBuf {
-    let program = repository().join("target/bin/retro");
-    assert!(
-        program.is_file(),
-        "{} is missing: run `rt check retro` in the repository's root first",
-        program.display()
-    );
-    program
-}
 
 /// What was printed for a file as standard input.
 fn printed_for(path: &Path) -> String {

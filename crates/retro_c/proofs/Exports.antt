@@ -5,7 +5,6 @@ use mathlib.Core.List.{List}
 use Prim.Native.Nat.{ℕ}
 use lib.IntN.{ℤ, pos}
 use lib.ListN.{length}
-use Rattle.plan.specs.Header as plan
 use Rattle.plan.specs.Demand3.{Demand3}
 use Rattle.plan.specs.Calls.{Answer, refused, given, giving, numberAfter, bufferAfter, Rated, rate, Demand3After, Tabled, table}
 use Rattle.plan.specs.Calls.{Group, read, write}
@@ -22,9 +21,8 @@ use Rattle.rating.specs.declared.rates.GroupFigures as rating
 use Rattle.tables.specs.declared.Ratios as tabling
 use Rattle.rating.specs.declared.rates.Rated.the-variants as rates
 use Rattle.tables.specs.declared.Tabled.the-variants as tables
-use Rattle.retro_c.specs.Exported.{codeOf, Numbers, numbers, BasicAfter, RateExported, TableExported, RetroGroupIs, ReadExported}
+use Rattle.retro_c.specs.Exported.{codeOf, Numbers, numbers, BasicAfter, RateExported, TableExported, refusal, accepted, retroGroup, ReadExported}
 use Rattle.retro_c.specs.Exported.{WriteExported}
-use Rattle.retro_c.specs.declared.RetroGroup.{RetroGroup}
 
 -- ---- Rate
 
@@ -93,35 +91,6 @@ module _ (s : List ℕ) (r : ℕ) where
 
 -- ---- Read
 
--- the ten numbers of a refusal, and of n and the header values
-abbrev pub refusal : ℕ → RetroGroup
-refusal k = record {
-  refused = k;
-  risks = 0;
-  «loss_limit» = 0;
-  «standard_premium» = 0;
-  expense = 0;
-  conversion = 0;
-  tax = 0;
-  «mark_kind» = 0;
-  «maximum_mark» = 0;
-  «minimum_mark» = 0;
-}
-
-abbrev pub accepted : ℕ → plan.Header → RetroGroup
-accepted n h = record {
-  refused = 0;
-  risks = n;
-  «loss_limit» = h .lossLimit;
-  «standard_premium» = h .standardPremium;
-  expense = h .expense;
-  conversion = h .conversion;
-  tax = h .tax;
-  «mark_kind» = h .markKind;
-  «maximum_mark» = h .maximumMark;
-  «minimum_mark» = h .minimumMark;
-}
-
 module _ (s oldCounts oldClaims counts claims : List ℕ) where
   abbrev was-read : Answer Group
   was-read = read s (length oldCounts) (length oldClaims)
@@ -129,7 +98,7 @@ module _ (s oldCounts oldClaims counts claims : List ℕ) where
   pub read-refused : (k : ℕ) → ReadSays s oldCounts oldClaims (reads.Refused k) counts claims
       → ReadExported s oldCounts oldClaims (refusal k) counts claims
   read-refused k x = record {
-    group-is = subst (λ (a : Answer Group). RetroGroupIs a (refusal k)) (sym (giving-refused risksAndHeader was-read (x .answer))) refl;
+    group-is = sym (ap retroGroup (giving-refused risksAndHeader was-read (x .answer)));
     counts-are = x .counts-after;
     claims-are = x .claims-after;
   }
@@ -140,8 +109,7 @@ module _ (s oldCounts oldClaims counts claims : List ℕ) where
       let gave = giving-given risksAndHeader was-read (x .answer) in
       record {
         group-is =
-            subst (λ (a : Answer Group). RetroGroupIs a (accepted (v .risks) (headerIs (v .header)))) (sym (gave .is))
-            (λ i. accepted (sym (gave .part) i .risks) (sym (gave .part) i .header));
+            (λ i. accepted (sym (gave .part) i .risks) (sym (gave .part) i .header)) ∙ sym (ap retroGroup (gave .is));
         counts-are = x .counts-after;
         claims-are = x .claims-after;
       }

@@ -44,40 +44,43 @@ pub record TableExported (s : List ℕ) (r code charge charge′ savings savings
   pub charge-is : charge′ ≡ numberAfter (λ t. t .charge) (table s r) charge
   pub savings-is : savings′ ≡ numberAfter (λ t. t .savings) (table s r) savings
 
--- the ten numbers of Read's answer
-abbrev pub RetroGroupIs : Answer Group → RetroGroup → Type 0
-RetroGroupIs (refused k) r =
-    r
-    ≡ record {
-      refused = k;
-      risks = 0;
-      «loss_limit» = 0;
-      «standard_premium» = 0;
-      expense = 0;
-      conversion = 0;
-      tax = 0;
-      «mark_kind» = 0;
-      «maximum_mark» = 0;
-      «minimum_mark» = 0;
-    }
-RetroGroupIs (given g) r =
-    r
-    ≡ record {
-      refused = 0;
-      risks = length (g .counts);
-      «loss_limit» = g .header .lossLimit;
-      «standard_premium» = g .header .standardPremium;
-      expense = g .header .expense;
-      conversion = g .header .conversion;
-      tax = g .header .tax;
-      «mark_kind» = g .header .markKind;
-      «maximum_mark» = g .header .maximumMark;
-      «minimum_mark» = g .header .minimumMark;
-    }
+-- the ten numbers of Read's answer: of a refusal, all else 0
+abbrev pub refusal : ℕ → RetroGroup
+refusal k = record {
+  refused = k;
+  risks = 0;
+  «loss_limit» = 0;
+  «standard_premium» = 0;
+  expense = 0;
+  conversion = 0;
+  tax = 0;
+  «mark_kind» = 0;
+  «maximum_mark» = 0;
+  «minimum_mark» = 0;
+}
+
+-- of n and the header values
+abbrev pub accepted : ℕ → plan.Header → RetroGroup
+accepted n h = record {
+  refused = 0;
+  risks = n;
+  «loss_limit» = h .lossLimit;
+  «standard_premium» = h .standardPremium;
+  expense = h .expense;
+  conversion = h .conversion;
+  tax = h .tax;
+  «mark_kind» = h .markKind;
+  «maximum_mark» = h .maximumMark;
+  «minimum_mark» = h .minimumMark;
+}
+
+abbrev pub retroGroup : Answer Group → RetroGroup
+retroGroup (refused k) = refusal k
+retroGroup (given g) = accepted (length (g .counts)) (g .header)
 
 -- a call of retro_read on the file s with buffers that held `oldCounts` and `oldClaims`
 pub record ReadExported (s oldCounts oldClaims : List ℕ) (r : RetroGroup) (counts claims : List ℕ) : Type 0 where
-  pub group-is : RetroGroupIs (read s (length oldCounts) (length oldClaims)) r
+  pub group-is : r ≡ retroGroup (read s (length oldCounts) (length oldClaims))
   pub counts-are : counts ≡ readCounts s oldCounts oldClaims
   pub claims-are : claims ≡ readClaims s oldCounts oldClaims
 

@@ -8,7 +8,7 @@
 //! file.
 
 use retro_tests::guard::{Guarded, Place};
-use retro_tests::{calls, examples, repository, second_rater};
+use retro_tests::{calls, examples, program, second_rater};
 use std::ffi::{c_int, c_void};
 use std::fs::{self, File};
 use std::process::Command;
@@ -123,7 +123,7 @@ const RUNS: usize = 50;
 
 /// The least stack limit in KiB under which `retro` always prints what it must for a file.
 fn least_limit(name: &str) -> u32 {
-    let program = repository().join("target/bin/retro");
+    let program = program();
     let file = examples().join(name).with_extension("group");
     let expected = fs::read(file.with_extension("expected")).expect("the expected lines");
     let rates_under = |limit: u32| {

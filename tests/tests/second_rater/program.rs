@@ -1,6 +1,6 @@
 //! The program `grouptext`.
 
-use retro_tests::samples::{four_risks, largest, one_claim_of_one, ten_risks};
+use retro_tests::samples::{four_risks, largest, one_claim_of_one, ten_risks, FOUR_RISKS_PRINTED};
 use retro_tests::{repository, text};
 use std::io::Write;
 use std::path::{Path, PathBuf};
@@ -42,14 +42,7 @@ fn output(arguments: &[&str], input: &[u8]) -> String {
 
 #[test]
 fn rate_prints_the_four_risks() {
-    assert_eq!(
-        output(&["rate"], &four_risks().file()),
-        "group 4 6700000 3300000 33600\n\
-         1 0 0 2000 4935\n\
-         2 4000 4000 4000 7245\n\
-         3 7000 5000 5000 8400\n\
-         4 13000 12000 9000 13020\n"
-    );
+    assert_eq!(output(&["rate"], &four_risks().file()), FOUR_RISKS_PRINTED);
 }
 
 #[test]

@@ -4,7 +4,7 @@
 use retro_tests::generator::Random;
 use retro_tests::samples::{
     crossed_marks, four_risks, largest, one_claim_of_one, ten_risks, two_risks_of_ten, Sample,
-    AMPLE,
+    AMPLE, FOUR_RISKS_PRINTED,
 };
 use retro_tests::second_rater::{print_rated, rate, table, Header, Line};
 
@@ -15,14 +15,7 @@ fn billed(sample: &Sample) -> Vec<u128> {
 #[test]
 fn four_risks_are_printed_byte_for_byte() {
     let rated = rate(&four_risks().file(), 16).unwrap();
-    assert_eq!(
-        print_rated(&rated),
-        "group 4 6700000 3300000 33600\n\
-         1 0 0 2000 4935\n\
-         2 4000 4000 4000 7245\n\
-         3 7000 5000 5000 8400\n\
-         4 13000 12000 9000 13020\n"
-    );
+    assert_eq!(print_rated(&rated), FOUR_RISKS_PRINTED);
 }
 
 #[test]
