@@ -7,7 +7,7 @@ use mathlib.Core.List.{List, [], _∷_}
 use Prim.Native.Nat.{ℕ, zero, suc, _+_, _*_, _-_, _≤_, _<_}
 use native.Mathlib.Omega.{arith}
 use lib.IntN.{ℤ, pos, negsuc, negℤ, _+ℤ_, _-ℤ_, _*ℤ_, subℕ}
-use lib.Signed.{_≤ℤ_}
+use lib.Signed.{_≤ℤ_, mag}
 use lib.Dec.{T, ltb, ltb→lt, nltb→le, le→leb}
 use Rattle.plan.specs.Arithmetic.{sumOf, sumZ}
 
@@ -78,3 +78,8 @@ crossed z w p q e = omega (arith, p .is, q .is, ap over e, ap under e)
 -- the order of naturals is theirs in whole numbers
 pub pos-≤ : {a b : ℕ} → a ≤ b → pos a ≤ℤ pos b
 pos-≤ {a} {b} h = record { le = le→leb a b h }
+
+-- a difference of two numbers below a bound is within it on both sides
+pub mag-lt : (z : ℤ) {a b m : ℕ} → Differs z a b → a < m → b ≤ m → mag z < m
+mag-lt (pos n) d h k = omega (arith, d .is)
+mag-lt (negsuc n) d h k = omega (arith, d .is)

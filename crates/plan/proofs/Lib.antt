@@ -19,6 +19,8 @@ pub mod GroupSizes
 pub mod Bills
 pub mod TableSizes
 pub mod Demand3
+pub mod Discounts
+pub mod Comparisons
 pub mod Decoded
 pub mod Writable
 pub mod RoundTrip

@@ -41,16 +41,16 @@ giving f (refused k) = refused k
 giving f (given a) = given (f a)
 
 -- a lent number after a call that gives it; a refusal keeps it
-abbrev pub numberAfter : {A : Type 0} → (A → ℕ) → Answer A → ℕ → ℕ
+abbrev pub numberAfter : {A B : Type 0} → (A → B) → Answer A → B → B
 numberAfter new (refused k) old = old
 numberAfter new (given a) old = new a
 
 -- a lent buffer whose first entries are filled: 'Later bytes of the buffer keep their contents'
-abbrev pub filled : List ℕ → List ℕ → List ℕ
+abbrev pub filled : {A : Type 0} → List A → List A → List A
 filled new old = new ++ drop (length new) old
 
 -- a lent buffer after a call; a refusal keeps it
-abbrev pub bufferAfter : {A : Type 0} → (A → List ℕ) → Answer A → List ℕ → List ℕ
+abbrev pub bufferAfter : {A B : Type 0} → (A → List B) → Answer A → List B → List B
 bufferAfter new (refused k) old = old
 bufferAfter new (given a) old = filled (new a) old
 

@@ -20,3 +20,6 @@ pub mod Calls
 -- Questions a file must pass, and what a Yes to them says
 pub mod Questions
 pub mod Bounds
+-- Document 02, job 1: guaranteed cost beside the retro premium
+pub mod Discount
+pub mod Comparison

@@ -1,0 +1,81 @@
+-- The invariant: no rate of the rows passed is above 1,000. The measure is the rows to come. Assumes nothing.
+use mathlib.Core.Path.{_≡_, refl, sym, ap, _∙_}
+use mathlib.Core.Bool.{Bool, _&&_}
+use mathlib.Core.List.{List}
+use Prim.Native.Nat.{ℕ, _+_, _-_, _≤_}
+use native.Mathlib.Omega.{arith}
+use borrow.Author.Tests.{le-leb, lt-leb}
+use Rattle.plan.specs.Discount.{ratesPass}
+use Rattle.plan.proofs.Tests.{and-first-no}
+use Rattle.discount.specs.Schedules.{layersOf}
+use Rattle.discount.specs.declared.Layer.{Layer}
+use Rattle.discount.proofs.Rows.{from, rate-asked}
+use Rattle.discount.proofs.rates_pass.Statement.{statement}
+use Rattle.discount.proofs.rates_pass.Tie as tie
+
+abbrev Inv-loop : tie.InvT-loop
+Inv-loop layers i₀ i = (i ≤ 4) × (ratesPass (layersOf layers) ≡ ratesPass (from layers i))
+
+abbrev μ-loop : tie.MeasureT-loop
+μ-loop layers i₀ i = 4 - i
+
+-- ---- the places of the code
+
+abbrev head : tie.After-struct-known Inv-loop μ-loop → tie.At-loop Inv-loop μ-loop
+head r = r .before .before .before
+
+abbrev rows : tie.At-loop Inv-loop μ-loop → List Layer
+rows l = l .before .args .t1
+
+-- ---- the needs
+
+loop-holds : tie.Need-loop-holds Inv-loop μ-loop
+loop-holds c = (omega arith, refl)
+
+mul-layer : tie.Need-mul-layer Inv-loop μ-loop
+mul-layer c = omega arith
+
+array-copy-out-layer : tie.Need-array-copy-out-layer Inv-loop μ-loop
+array-copy-out-layer c = omega arith
+
+returns : tie.Need-returns Inv-loop μ-loop
+returns c =
+    let l = head (c .before) in
+    sym (l .loop .inv .1 ∙ rate-asked (rows l) (l .loop .i) (c .before .before .before .loop-test .taken) ∙ and-first-no _ (lt-leb _ _ (c .if1 .taken)))
+
+add-i : tie.Need-add-i Inv-loop μ-loop
+add-i c = omega arith
+
+loop-less : tie.Need-loop-less Inv-loop μ-loop
+loop-less c = omega arith
+
+loop-again : tie.Need-loop-again Inv-loop μ-loop
+loop-again c =
+    let l = head (c .before) in
+    let i = l .loop .i in (
+      omega arith,
+      l .loop .inv .1
+          ∙ rate-asked (rows l) i (c .before .before .before .loop-test .taken)
+          ∙ ap (λ (b : Bool). b && ratesPass (from (rows l) (i + 1))) (le-leb _ _ (c .if1 .left)),
+    )
+
+returns-2 : tie.Need-returns-2 Inv-loop μ-loop
+returns-2 c =
+    let l = c .before in
+    let all : l .loop .i ≡ 4 = omega (arith, c .loop-test .left, l .loop .inv .0) in
+    sym (l .loop .inv .1 ∙ ap (λ (k : ℕ). ratesPass (from (rows l) k)) all)
+
+pub rates-pass-spec : {M : Type 1} → statement M
+rates-pass-spec =
+    tie.close
+    (tie.spec
+    Inv-loop
+    μ-loop
+    loop-holds
+    mul-layer
+    array-copy-out-layer
+    returns
+    add-i
+    loop-less
+    loop-again
+    returns-2)
