@@ -39,14 +39,16 @@ numbersOf c = record {
 }
 
 -- the code's answer
+abbrev pub numbersIn : Comparison → Numbers
+numbersIn g = record {
+  rated = record { risks = g .rated .risks; basic = pos (g .rated .basic); excess = g .rated .excess; billed = g .rated .billed };
+  discount = g .discount;
+  guaranteed = g .guaranteed;
+  difference = g .difference;
+}
+
 abbrev pub numbersAre : Compared → Answer Numbers
-numbersAre (answers.Given g) =
-    given (record {
-      rated = record { risks = g .rated .risks; basic = pos (g .rated .basic); excess = g .rated .excess; billed = g .rated .billed };
-      discount = g .discount;
-      guaranteed = g .guaranteed;
-      difference = g .difference;
-    })
+numbersAre (answers.Given g) = given (numbersIn g)
 numbersAre (answers.Refused k) = refused k
 
 -- a call on the file s by the schedule ls, whose buffers held `oldPremiums` and `oldDifferences` and hold `premiums` and

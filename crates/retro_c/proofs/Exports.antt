@@ -22,7 +22,14 @@ use Rattle.tables.specs.declared.Ratios as tabling
 use Rattle.rating.specs.declared.rates.Rated.the-variants as rates
 use Rattle.tables.specs.declared.Tabled.the-variants as tables
 use Rattle.retro_c.specs.Exported.{codeOf, Numbers, numbers, BasicAfter, RateExported, TableExported, refusal, accepted, retroGroup, ReadExported}
-use Rattle.retro_c.specs.Exported.{WriteExported}
+use Rattle.plan.specs.Discount.{Layer}
+use Rattle.plan.specs.Comparison as comparison
+use Rattle.plan.specs.Comparison.{Comparison, compare, BesideAfter}
+use Rattle.guaranteed.specs.Comparisons.{numbersOf, numbersIn, figuresIn, CompareSays, BesideGiven}
+use Rattle.guaranteed.specs.Comparisons as guaranteed
+use Rattle.guaranteed.specs.declared.Comparison as comparing
+use Rattle.guaranteed.specs.declared.Compared.the-variants as compares
+use Rattle.retro_c.specs.Exported.{WriteExported, CompareExported}
 
 -- ---- Rate
 
@@ -134,3 +141,65 @@ module _ (g : Group) (old new : List ℕ) where
         size-is = sym (ap (λ (a : Answer (List ℕ)). numberAfter length a lent) (gave .is) ∙ gave .part);
         buffer-is = x .buffer;
       }
+
+-- ---- guaranteed cost beside Rate
+
+-- a lent number after a refusal, and after what was given, of which the number is a part
+kept : {A B : Type 0} (number : A → B) (old : B) {a : Answer A} {k : ℕ} → a ≡ refused k → old ≡ numberAfter number a old
+kept {A} number old e = sym (ap (λ (x : Answer A). numberAfter number x old) e)
+
+set-to : {A B : Type 0} (number : A → B) (old : B) {a : Answer A} {v : A} {new : B} → a ≡ given v → number v ≡ new → new ≡ numberAfter number a old
+set-to {A} number old e p = sym (ap (λ (x : Answer A). numberAfter number x old) e ∙ p)
+
+module _ (s : List ℕ) (ls : List Layer) (oldPremiums : List ℕ) (oldDifferences : List ℤ) (premiums : List ℕ) (differences : List ℤ) where
+  abbrev compared : Answer Comparison
+  compared = compare s ls (length oldPremiums) (length oldDifferences)
+
+  pub compare-refused : (k : ℕ) (f : comparison.Figures) → CompareSays s ls oldPremiums oldDifferences (compares.Refused k) premiums differences
+      → CompareExported compared oldPremiums oldDifferences k f f premiums differences
+  compare-refused k f x =
+      let e : compared ≡ refused k = giving-refused numbersOf compared (x .answer) in
+      record {
+        code-is = sym (ap codeOf e);
+        risks-are = kept (λ (c : Comparison). c .rated .risks) (f .risks) e;
+        basic-is = subst (λ (a : Answer Comparison). BasicAfter (giving (λ c. c .rated) a) (f .basic) (f .basic)) (sym e) refl;
+        excess-is = kept (λ (c : Comparison). c .rated .excess) (f .excess) e;
+        billed-is = kept (λ (c : Comparison). c .rated .billed) (f .billed) e;
+        discount-is = kept (λ (c : Comparison). c .discount) (f .discount) e;
+        guaranteed-is = kept (λ (c : Comparison). c .guaranteed) (f .guaranteed) e;
+        difference-is = kept (λ (c : Comparison). c .difference) (f .difference) e;
+        premiums-are = x .premiums-after;
+        differences-are = x .differences-after;
+      }
+
+  -- of a refusal nothing more is said
+  pub none-beside : (k : ℕ) (f : comparison.Figures) → CompareSays s ls oldPremiums oldDifferences (compares.Refused k) premiums differences
+      → BesideAfter compared s f premiums differences
+  none-beside k f x =
+      subst (λ (a : Answer Comparison). BesideAfter a s f premiums differences) (sym (giving-refused numbersOf compared (x .answer))) tt
+
+  module _ (g : comparing.Comparison) (x : CompareSays s ls oldPremiums oldDifferences (compares.Given g) premiums differences) where
+    all-given : Gave numbersOf compared (numbersIn g)
+    all-given = giving-given numbersOf compared (x .answer)
+
+    pub compare-given : (f : comparison.Figures) → CompareExported compared oldPremiums oldDifferences 0 f (figuresIn g) premiums differences
+    compare-given f =
+        let e = all-given .is in
+        let p = all-given .part in
+        record {
+          code-is = sym (ap codeOf e);
+          risks-are = set-to (λ (c : Comparison). c .rated .risks) (f .risks) e (ap (λ (y : guaranteed.Numbers). y .rated .risks) p);
+          basic-is =
+              subst (λ (a : Answer Comparison). BasicAfter (giving (λ c. c .rated) a) (f .basic) (g .rated .basic)) (sym e)
+              (sym (ap (λ (y : guaranteed.Numbers). y .rated .basic) p));
+          excess-is = set-to (λ (c : Comparison). c .rated .excess) (f .excess) e (ap (λ (y : guaranteed.Numbers). y .rated .excess) p);
+          billed-is = set-to (λ (c : Comparison). c .rated .billed) (f .billed) e (ap (λ (y : guaranteed.Numbers). y .rated .billed) p);
+          discount-is = set-to (λ (c : Comparison). c .discount) (f .discount) e (ap (λ (y : guaranteed.Numbers). y .discount) p);
+          guaranteed-is = set-to (λ (c : Comparison). c .guaranteed) (f .guaranteed) e (ap (λ (y : guaranteed.Numbers). y .guaranteed) p);
+          difference-is = set-to (λ (c : Comparison). c .difference) (f .difference) e (ap (λ (y : guaranteed.Numbers). y .difference) p);
+          premiums-are = x .premiums-after;
+          differences-are = x .differences-after;
+        }
+
+    pub all-beside : BesideGiven (compares.Given g) s premiums differences → BesideAfter compared s (figuresIn g) premiums differences
+    all-beside b = subst (λ (a : Answer Comparison). BesideAfter a s (figuresIn g) premiums differences) (sym (all-given .is)) b

@@ -5,8 +5,9 @@ use Prim.Native.Nat.{ℕ}
 use lib.IntN.{ℤ, pos}
 use lib.ListN.{length}
 use Rattle.plan.specs.Header as plan
-use Rattle.plan.specs.Calls.{Answer, refused, given, numberAfter, Rated, rate, rateBuffer, Tabled, table, Group, read, readCounts}
-use Rattle.plan.specs.Calls.{readClaims, write, writeBuffer, writeLength}
+use Rattle.plan.specs.Calls.{Answer, refused, given, giving, numberAfter, Rated, rate, rateBuffer, Tabled, table, Group, read, readCounts}
+use Rattle.plan.specs.Calls.{readClaims, write, writeBuffer, writeLength, bufferAfter, premiumBytes}
+use Rattle.plan.specs.Comparison.{Comparison, Figures}
 use Rattle.retro_c.specs.declared.RetroGroup.{RetroGroup}
 
 -- 0 where a call has a result, else the number of the first No
@@ -89,3 +90,22 @@ pub record WriteExported (g : Group) (old : List ℕ) (code oldSize newSize : �
   pub code-is : code ≡ codeOf (write g (length old))
   pub size-is : newSize ≡ writeLength g (length old) oldSize
   pub buffer-is : new ≡ writeBuffer g old
+
+-- the seven numbers lent to the call that sets guaranteed cost beside Rate
+abbrev pub lent : ℕ → ℕ → ℕ → ℕ → ℕ → ℕ → ℤ → Figures
+lent n m q b d g z = record { risks = n; basic = m; excess = q; billed = b; discount = d; guaranteed = g; difference = z }
+
+-- a call of retro_guaranteed to which document 02 answers a, with buffers that held `oldPremiums` and `oldDifferences` and the
+-- numbers `before`, and what is there after it
+pub record CompareExported (a : Answer Comparison) (oldPremiums : List ℕ) (oldDifferences : List ℤ) (code : ℕ) (before after : Figures)
+    (premiums : List ℕ) (differences : List ℤ) : Type 0 where
+  pub code-is : code ≡ codeOf a
+  pub risks-are : after .risks ≡ numberAfter (λ c. c .rated .risks) a (before .risks)
+  pub basic-is : BasicAfter (giving (λ c. c .rated) a) (before .basic) (after .basic)
+  pub excess-is : after .excess ≡ numberAfter (λ c. c .rated .excess) a (before .excess)
+  pub billed-is : after .billed ≡ numberAfter (λ c. c .rated .billed) a (before .billed)
+  pub discount-is : after .discount ≡ numberAfter (λ c. c .discount) a (before .discount)
+  pub guaranteed-is : after .guaranteed ≡ numberAfter (λ c. c .guaranteed) a (before .guaranteed)
+  pub difference-is : after .difference ≡ numberAfter (λ c. c .difference) a (before .difference)
+  pub premiums-are : premiums ≡ bufferAfter (λ c. premiumBytes (c .rated)) a oldPremiums
+  pub differences-are : differences ≡ bufferAfter (λ c. c .differences) a oldDifferences

@@ -1,11 +1,18 @@
-// The calls for C and for test programs: Rate, Table, Read and Write on numbers and slices, one match each. What a call gives
-// is said in include/retro.h; each contract here is an equation with document 01, refusals included.
+// The calls for C and for test programs: Rate, Table, Read, Write and guaranteed cost beside Rate, on numbers and slices, one match
+// each. What a call gives is said in include/retro.h; each contract here is an equation with documents 01 and 02, refusals included.
 ghost use mathlib.Core.Path.{_≡_};
 ghost use lib.ListN.{length};
 ghost use Rattle.plan.specs.Calls.{rate, Demand3After};
 ghost use Rattle.writing.specs.Writer.{givenGroup};
+ghost use Rattle.plan.specs.Comparison as plan;
+ghost use Rattle.plan.specs.Comparison.{BesideAfter};
+ghost use Rattle.discount.specs.Schedules.{layersOf};
 ghost use Rattle.retro_c.specs.Exported.{numbers, RateExported, TableExported, ReadExported, WriteExported};
+ghost use Rattle.retro_c.specs.Exported.{lent, CompareExported};
+use discount::Schedule;
 use group::Header;
+use guaranteed::Compared;
+use guaranteed::compare;
 use rating::rates::Rated;
 use reading::GroupRead;
 use tables::Tabled;
@@ -139,6 +146,58 @@ pub extern "C" fn retro_write(
         Written::Refused(k) => k,
         Written::Length(n) => {
             *size = n;
+            0
+        }
+    }
+}
+
+// Guaranteed cost beside the retro premium: 0 and what Rate gives, the discount, guaranteed cost, what each risk is billed above or
+// below it and their sum; or the number of the first question that failed.
+#[no_mangle]
+pub extern "C" fn retro_guaranteed(
+    file: &[u8],
+    schedule: Schedule,
+    premiums: &mut [u8],
+    differences: &mut [i64],
+    risks: &mut u32,
+    basic: &mut u64,
+    excess: &mut u64,
+    billed: &mut u64,
+    discount: &mut u32,
+    guaranteed: &mut u32,
+    difference: &mut i64,
+) -> u32
+    ensures says { λ code. ⌜
+        CompareExported
+        (plan.compare (now (file .entry)) (layersOf (schedule .layers)) (length (now (premiums .entry))) (length (now (differences .entry))))
+        (now (premiums .entry)) (now (differences .entry)) code
+        (lent (now (risks .entry)) (now (basic .entry)) (now (excess .entry)) (now (billed .entry))
+        (now (discount .entry)) (now (guaranteed .entry)) (now (difference .entry)))
+        (lent (now (risks .exit)) (now (basic .exit)) (now (excess .exit)) (now (billed .exit))
+        (now (discount .exit)) (now (guaranteed .exit)) (now (difference .exit)))
+        (now (premiums .exit)) (now (differences .exit))
+        ⌝ }
+    ensures beside { λ code. ⌜
+        BesideAfter
+        (plan.compare (now (file .entry)) (layersOf (schedule .layers)) (length (now (premiums .entry))) (length (now (differences .entry))))
+        (now (file .entry))
+        (lent (now (risks .exit)) (now (basic .exit)) (now (excess .exit)) (now (billed .exit))
+        (now (discount .exit)) (now (guaranteed .exit)) (now (difference .exit)))
+        (now (premiums .exit)) (now (differences .exit))
+        ⌝ }
+{
+    match compare(file, schedule, premiums, differences) {
+        Compared::Refused(k) => k,
+        Compared::Given(g) => {
+            let rated = g.rated;
+            let total = g.difference;
+            *risks = rated.risks;
+            *basic = rated.basic;
+            *excess = rated.excess;
+            *billed = rated.billed;
+            *discount = g.discount;
+            *guaranteed = g.guaranteed;
+            *difference = total;
             0
         }
     }
