@@ -3,7 +3,7 @@
 use mathlib.Core.Path.{_≡_, refl}
 use mathlib.Core.List.{List, [], _∷_, map}
 use Prim.Native.Nat.{ℕ, _*_}
-use lib.IntN.{ℤ, pos}
+use lib.IntN.{ℤ, pos, negsuc}
 use Rattle.plan.specs.Arithmetic.{nearest}
 use Rattle.plan.specs.Field.{bit, number, field, bytesOf}
 use Rattle.plan.specs.Header.{Header, headerOf}
@@ -18,6 +18,8 @@ use Rattle.plan.specs.Premium.{billRounding, billWith}
 use Rattle.plan.specs.Demand3.{totalWith, taxedExpensesAndLosses}
 use Rattle.plan.specs.Table.{chargeSum, savingsSum, charge, savings}
 use Rattle.plan.specs.Calls.{Answer, refused, given, Rated, ratedOf, rate, Tabled, table, Group, read, write}
+use Rattle.plan.specs.Discount.{Layer, discount, guaranteedCost}
+use Rattle.plan.specs.Comparison.{Comparison, comparisonOf, compare}
 
 -- header values: limit, P, e, c, T, kind, maximum, minimum
 abbrev header : ℕ → ℕ → ℕ → ℕ → ℕ → ℕ → ℕ → ℕ → Header
@@ -192,6 +194,56 @@ unfolding bytesOf number bit field claimAt pastClaim slotsOfClaim claimFits coun
 otherCases =
     (refl, refl, refl, refl, refl, refl, refl, refl, refl, refl, refl, refl, refl, refl, refl, refl, refl, refl, refl, refl, refl, refl)
 
+-- ---- document 02, job 1
+
+abbrev layer : ℕ → ℕ → Layer
+layer w r = record { width = w; rate = r }
+
+-- 'The 1986 stock schedule of source document 001 (5,000 at 0; 95,000 at 10.9; 400,000 at 12.6; rest 14.4)', with a width of the last
+-- row, which is not looked at
+abbrev stock : ℕ → List Layer
+stock w = layer 5000 0 ∷ layer 95000 109 ∷ layer 400000 126 ∷ layer w 144 ∷ []
+
+-- the group of four under the stock schedule: P 10,000, so 5,000 × 0.109 = 545
+abbrev fourBeside : Answer Comparison
+fourBeside =
+    given (record {
+      rated =
+          record { risks = 4; basic = pos 6700000; excess = 3300000; billed = 33600; premiums = 4935 ∷ 7245 ∷ 8400 ∷ 13020 ∷ [] };
+      discount = 545;
+      guaranteed = 9455;
+      -- −4,520, −2,210, −1,055 and 3,565
+      differences = negsuc 4519 ∷ negsuc 2209 ∷ negsuc 1054 ∷ pos 3565 ∷ [];
+      -- −4,220
+      difference = negsuc 4219;
+    })
+
+abbrev GuaranteedCase : Type 0
+GuaranteedCase =
+    -- 'gives 13,505 on 125,000, so 111,495'
+    (discount (stock 0) 125000 ≡ 13505)
+    × (guaranteedCost (stock 0) 125000 ≡ 111495)
+    -- two halves of a dollar are one: rounded once, not in each layer
+    × (discount (layer 1 250 ∷ layer 1 250 ∷ layer 1 0 ∷ layer 0 0 ∷ []) 2 ≡ 1)
+    -- an exact half upward
+    × (discount (layer 1 500 ∷ layer 1 0 ∷ layer 1 0 ∷ layer 0 0 ∷ []) 1 ≡ 1)
+    -- the largest premium: all of it, and widths that add up to more than 32 bits
+    × (discount (layer 1 1000 ∷ layer 2 1000 ∷ layer 3 1000 ∷ layer 0 1000 ∷ []) 4194303 ≡ 4194303)
+    × (discount (layer 4294967295 100 ∷ layer 4294967295 200 ∷ layer 4294967295 300 ∷ layer 0 400 ∷ []) 4194303 ≡ 419430)
+    × (compare fourFile (stock 0) 16 4 ≡ fourBeside)
+    × (compare fourFile (stock 4294967295) 16 4 ≡ fourBeside)
+    -- the questions after 12, in their order
+    × (compare fourFile (stock 0) 15 4 ≡ refused 13)
+    × (compare fourFile (stock 0) 16 3 ≡ refused 13)
+    × (compare fourFile (layer 0 1001 ∷ layer 1 0 ∷ layer 1 0 ∷ layer 1 0 ∷ []) 15 4 ≡ refused 13)
+    × (compare fourFile (layer 0 0 ∷ layer 1 0 ∷ layer 1 0 ∷ layer 1 1001 ∷ []) 16 4 ≡ refused 16)
+    × (compare fourFile (layer 1 1000 ∷ layer 1 1000 ∷ layer 0 1000 ∷ layer 1 1000 ∷ []) 16 4 ≡ refused 17)
+    × (compare tensFile2000 (layer 0 1001 ∷ layer 0 1001 ∷ layer 0 1001 ∷ layer 0 1001 ∷ []) 0 0 ≡ refused 12)
+
+guaranteedCase : GuaranteedCase
+unfolding number bit field claimAt pastClaim countAt firstClaim limitedOf LG LH SX SS ratable basicPremium excessCharge nearest billRounding billWith ratedOf discount guaranteedCost comparisonOf compare
+guaranteedCase = (refl, refl, refl, refl, refl, refl, refl, refl, refl, refl, refl, refl, refl, refl)
+
 -- all of them: 'gathered as one checked list'
-pub provedCases : FourCase × TableCase × OtherCases
-provedCases = (fourCase, tableCase, otherCases)
+pub provedCases : FourCase × TableCase × OtherCases × GuaranteedCase
+provedCases = (fourCase, tableCase, otherCases, guaranteedCase)

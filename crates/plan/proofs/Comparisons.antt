@@ -23,9 +23,17 @@ use Rattle.plan.proofs.Tests.{both}
 use Rattle.plan.proofs.Differences.{Differs, of-pos, of-add, of-minus, same}
 use Rattle.plan.proofs.Filled.{first-filled}
 use Rattle.plan.proofs.Losses.{length-losses}
-use Rattle.plan.proofs.Questions.{passed-both, given-passed, after-gate, answered, goes-on, yes-to}
+use Rattle.plan.proofs.Questions.{numbers, passed-both, given-passed, after-gate, answered, goes-on, yes-to}
 use Rattle.plan.proofs.Discounts as discounts
 use Rattle.plan.proofs.Demand3.{demand3}
+
+-- ---- the order in which the call asks
+
+-- 'both after 13, which ends Rate's questions as they then stand'
+asked-in-order : (s : List ℕ) (ls : List Layer) (premiumsRoom differencesRoom : ℕ)
+    → numbers (compareQuestions s ls premiumsRoom differencesRoom)
+    ≡ 1 ∷ 2 ∷ 3 ∷ 4 ∷ 5 ∷ 6 ∷ 7 ∷ 8 ∷ 9 ∷ 10 ∷ 11 ∷ 12 ∷ 13 ∷ 16 ∷ 17 ∷ []
+asked-in-order s ls premiumsRoom differencesRoom = refl
 
 -- ---- the sum of the differences
 

@@ -25,7 +25,7 @@ use Rattle.plan.proofs.Tests.{both, and-yes}
 
 -- ---- the order in which each call asks
 
-numbers : List Question → List ℕ
+abbrev pub numbers : List Question → List ℕ
 numbers [] = []
 numbers (ask k b ∷ qs) = k ∷ numbers qs
 
@@ -35,7 +35,6 @@ asked-in-order : (s : List ℕ) (room r countsRoom claimsRoom : ℕ) (h : Header
     × (numbers (tableQuestions s r) ≡ 1 ∷ 2 ∷ 3 ∷ 4 ∷ 5 ∷ 6 ∷ 7 ∷ 8 ∷ 9 ∷ 10 ∷ 14 ∷ [])
     × (numbers (readQuestions s countsRoom claimsRoom) ≡ 1 ∷ 2 ∷ 3 ∷ 4 ∷ 5 ∷ 6 ∷ 7 ∷ 8 ∷ 9 ∷ 13 ∷ [])
     × (numbers (writeQuestions h counts claims room) ≡ 3 ∷ 4 ∷ 5 ∷ 6 ∷ 7 ∷ 15 ∷ 13 ∷ [])
-unfolding numbers
 asked-in-order s room r countsRoom claimsRoom h counts claims = (refl, refl, refl, refl)
 
 -- ---- one question
