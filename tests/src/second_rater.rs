@@ -1,15 +1,16 @@
 //! A second rater: retrospective premiums balanced on a group's own Table M.
 //!
-//! It follows document 01 and serves as the outside figure against which a
-//! production rater is compared. To share no mistake with such a rater it goes
-//! a deliberately different way: the whole file is expanded to one string of
-//! bits, every field is taken as a 128-bit whole number, all arithmetic is in
-//! `i128` and `u128`, every risk has its own `Vec` of claims, and each step of
-//! the document is one plain function with the document's letter in its
-//! comment. Speed and memory are of no concern.
+//! It follows document 01, and job 1 of document 02 for guaranteed cost, and
+//! serves as the outside figure against which a production rater is compared.
+//! To share no mistake with such a rater it goes a deliberately different way:
+//! the whole file is expanded to one string of bits, every field is taken as a
+//! 128-bit whole number, all arithmetic is in `i128` and `u128`, every risk has
+//! its own `Vec` of claims, and each step of the documents is one plain
+//! function with the document's letter or words in its comment. Speed and
+//! memory are of no concern.
 //!
 //! Money is whole dollars. The calls answer `Err(k)` where the first question
-//! answered No is number `k` of the document's table.
+//! answered No is number `k` of the documents.
 
 #![forbid(unsafe_code)]
 
@@ -92,6 +93,30 @@ pub struct Rated {
     pub premiums: Vec<u128>,
     /// The risks in file order.
     pub lines: Vec<Line>,
+}
+
+/// One row of a premium discount schedule.
+#[derive(Clone, Copy, Debug, PartialEq, Eq)]
+pub struct Layer {
+    /// The layer's width in dollars. In the last row it is not looked at.
+    pub width: u32,
+    /// The layer's rate in tenths of a percent.
+    pub rate: u32,
+}
+
+/// What the call for guaranteed cost gives.
+#[derive(Clone, Debug, PartialEq, Eq)]
+pub struct Guaranteed {
+    /// Rate's results.
+    pub rated: Rated,
+    /// The premium discount on P in dollars.
+    pub discount: u128,
+    /// Guaranteed cost in dollars.
+    pub guaranteed: u128,
+    /// For each risk in file order, billed minus guaranteed cost.
+    pub differences: Vec<i128>,
+    /// The sum of the differences.
+    pub difference: i128,
 }
 
 // ---------------------------------------------------------------------------
@@ -411,6 +436,74 @@ fn billed_premium(
 }
 
 // ---------------------------------------------------------------------------
+// Guaranteed cost beside the retro premium
+// ---------------------------------------------------------------------------
+
+/// Question 16, whose No is "a rate above 1,000": whether none of the four
+/// rates is.
+fn rates_pass(schedule: &[Layer; 4]) -> bool {
+    schedule.iter().all(|layer| layer.rate <= 1_000)
+}
+
+/// Question 17, whose No is "one of the first three widths is 0": whether none
+/// of them is.
+fn widths_pass(schedule: &[Layer; 4]) -> bool {
+    schedule[..3].iter().all(|layer| layer.width != 0)
+}
+
+/// The dollar at which the layer in row `k` (0 to 3) begins: the widths of the
+/// layers before it added up.
+fn lower_end(schedule: &[Layer; 4], k: usize) -> u128 {
+    schedule[..k]
+        .iter()
+        .map(|layer| u128::from(layer.width))
+        .sum()
+}
+
+/// The dollar at which the layer in row `k` (0 to 3) ends: "the first three
+/// have a width in whole dollars of 32 bits and the last has no end".
+fn upper_end(schedule: &[Layer; 4], k: usize) -> Option<u128> {
+    if k == 3 {
+        None
+    } else {
+        Some(lower_end(schedule, k) + u128::from(schedule[k].width))
+    }
+}
+
+/// The part of P in the layer of row `k`: what of P lies below the layer's
+/// upper end less what of P lies below its lower end.
+fn part_in_layer(schedule: &[Layer; 4], k: usize, standard_premium: u128) -> u128 {
+    let below_lower = standard_premium.min(lower_end(schedule, k));
+    let below_upper = match upper_end(schedule, k) {
+        Some(end) => standard_premium.min(end),
+        None => standard_premium,
+    };
+    below_upper - below_lower
+}
+
+/// The discount on P: "the sum over layers, to the nearest dollar, half
+/// upward". The sum is in thousandths of a dollar and rounded once.
+fn premium_discount(schedule: &[Layer; 4], standard_premium: u128) -> u128 {
+    let mut thousandths = 0;
+    for k in 0..4 {
+        let part = part_in_layer(schedule, k, standard_premium);
+        thousandths += part * u128::from(schedule[k].rate);
+    }
+    nearest(thousandths, 1_000)
+}
+
+/// Guaranteed cost: "standard premium less discount". The rates have passed
+/// question 16, so the discount is at most P.
+fn guaranteed_cost(standard_premium: u128, discount: u128) -> u128 {
+    standard_premium - discount
+}
+
+/// A risk's difference: "billed minus guaranteed cost, which may be negative".
+fn billed_less_guaranteed(billed: u128, guaranteed: u128) -> i128 {
+    billed as i128 - guaranteed as i128
+}
+
+// ---------------------------------------------------------------------------
 // The calls
 // ---------------------------------------------------------------------------
 
@@ -481,6 +574,46 @@ pub fn rate(file: &[u8], room: usize) -> Result<Rated, u32> {
         billed: premiums.iter().sum(),
         premiums,
         lines,
+    })
+}
+
+/// Guaranteed cost beside the retro premium: Rate's questions 1 to 13, where 13
+/// is of both buffers, then 16, then 17. `premiums_room` is the length of the
+/// premiums buffer in bytes, four for each risk; `differences_room` is that of
+/// the differences buffer in entries, one for each risk.
+pub fn guaranteed(
+    file: &[u8],
+    schedule: &[Layer; 4],
+    premiums_room: usize,
+    differences_room: usize,
+) -> Result<Guaranteed, u32> {
+    let rated = rate(file, premiums_room)?;
+    if (differences_room as u128) < u128::from(rated.risks) {
+        return Err(13);
+    }
+    if !rates_pass(schedule) {
+        return Err(16);
+    }
+    if !widths_pass(schedule) {
+        return Err(17);
+    }
+
+    let Opened { fields, .. } = open(file)?;
+    let discount = premium_discount(schedule, fields.standard_premium);
+    let guaranteed = guaranteed_cost(fields.standard_premium, discount);
+    let mut differences = Vec::new();
+    let mut difference = 0;
+    for &premium in &rated.premiums {
+        let one = billed_less_guaranteed(premium, guaranteed);
+        differences.push(one);
+        difference += one;
+    }
+    Ok(Guaranteed {
+        rated,
+        discount,
+        guaranteed,
+        differences,
+        difference,
     })
 }
 
