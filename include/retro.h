@@ -2,8 +2,9 @@
  * retro.h: retrospective premiums balanced on a group's own Table M.
  *
  * A group file holds one size group: 1 to 255 risks with the same standard premium, each with 0 to
- * 63 claims. The calls rate such a file (retro_rate), give the group's charge and savings at an
- * entry ratio (retro_table), take a file apart (retro_read) and make one (retro_write).
+ * 63 claims. The calls rate such a file (retro_rate), rate it beside guaranteed cost
+ * (retro_guaranteed), give the group's charge and savings at an entry ratio (retro_table), take a
+ * file apart (retro_read) and make one (retro_write).
  *
  * Building
  *
@@ -34,11 +35,14 @@
  *     14  Is the entry ratio at most 600 hundredths?
  *     15  Do the number of risks, the counts, the claims and the header values fit their widths in
  *         the file, and do the counts add to the number of claims?
+ *     16  Are all four rates of the schedule at most 1,000 tenths of a percent?
+ *     17  Are the first three widths of the schedule at least 1?
  *
- *     retro_rate   asks 1 to 13
- *     retro_table  asks 1 to 10, then 14
- *     retro_read   asks 1 to 9, then 13
- *     retro_write  asks 3 to 7, then 15, then 13
+ *     retro_rate        asks 1 to 13
+ *     retro_guaranteed  asks 1 to 13, then 16, then 17
+ *     retro_table       asks 1 to 10, then 14
+ *     retro_read        asks 1 to 9, then 13
+ *     retro_write       asks 3 to 7, then 15, then 13
  *
  * Memory
  *
@@ -86,6 +90,18 @@ typedef struct retro_header {
     uint32_t minimum_mark;     /* thousandths; at most 6,000 */
 } retro_header;
 
+/* A layer of a premium discount schedule. */
+typedef struct retro_layer {
+    uint32_t width; /* whole dollars; at least 1, and not looked at in the last layer */
+    uint32_t rate;  /* tenths of a percent; at most 1,000 */
+} retro_layer;
+
+/* A premium discount schedule: one layer above the other, from the first dollar on. The last has no
+   end. */
+typedef struct retro_schedule {
+    retro_layer layers[4];
+} retro_schedule;
+
 /* What retro_read answers. Where `refused` is not 0, all else is 0. */
 typedef struct retro_group {
     uint32_t refused; /* 0, or the number of the first question answered No */
@@ -118,6 +134,47 @@ typedef struct retro_group {
  */
 uint32_t retro_rate(const uint8_t *file, size_t file_len, uint8_t *premiums, size_t premiums_len,
                     uint32_t *risks, uint64_t *basic, uint64_t *excess, uint64_t *billed);
+
+/*
+ * Rates a group file and sets each premium beside guaranteed cost, which is the standard premium
+ * less the premium discount of a schedule: what the plan saved or cost.
+ *
+ *     schedule     has the four layers. The part of the standard premium in each of the first three
+ *                  ends at the layer's width, and the last layer has all that is left.
+ *     premiums     gets the billed premium of each risk in file order, in whole dollars, as four
+ *                  bytes with the most significant first. Four bytes for each risk are enough, so
+ *                  4 * RETRO_MOST_RISKS always are. Later bytes keep their contents.
+ *     differences  gets for each risk in file order its billed premium less guaranteed cost, in
+ *                  whole dollars: below 0 where the plan saved, above 0 where it cost. Each is from
+ *                  -4,194,303 to below 2^31. differences_len counts numbers, not bytes. One entry
+ *                  for each risk is enough, so RETRO_MOST_RISKS always are. Later entries keep
+ *                  their contents.
+ *     risks        gets the number of risks.
+ *     basic        gets the balanced basic premium of the whole group in thousandths of a dollar.
+ *     excess       gets the excess loss charge of the whole group in thousandths of a dollar.
+ *     billed       gets the sum of the billed premiums in dollars.
+ *     discount     gets the discount on the standard premium in whole dollars: each layer's part
+ *                  times its rate, added over the layers and then rounded once to the nearest
+ *                  dollar, an exact half upward. It is at most the standard premium.
+ *     guaranteed   gets guaranteed cost in whole dollars, the same for each risk: the standard
+ *                  premium less the discount, 0 to 4,194,303.
+ *     difference   gets the sum of the differences in dollars. Without its sign it is below
+ *                  550,000,000,000.
+ *
+ * The premiums, risks, basic, excess and billed are those of retro_rate for the same file. With
+ * layers of 5,000 at 0, 95,000 at 109 and 400,000 at 126 and the rest at 144, a standard premium of
+ * 125,000 has the discount 13,505 and the guaranteed cost 111,495.
+ *
+ * The refusals of retro_rate come first, with 13 where either buffer is too short; then 16 where
+ * one of the four rates is above 1,000; then 17 where one of the first three widths is 0. After any
+ * of them both buffers and all seven numbers hold what they held: with 16 and 17, too, no premium
+ * has been stored.
+ */
+uint32_t retro_guaranteed(const uint8_t *file, size_t file_len, retro_schedule schedule,
+                          uint8_t *premiums, size_t premiums_len, int64_t *differences,
+                          size_t differences_len, uint32_t *risks, uint64_t *basic,
+                          uint64_t *excess, uint64_t *billed, uint32_t *discount,
+                          uint32_t *guaranteed, int64_t *difference);
 
 /*
  * Gives the charge and the savings of a group's own Table M at an entry ratio.
