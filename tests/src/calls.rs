@@ -91,9 +91,88 @@ impl From<second_rater::Header> for Header {
     }
 }
 
+/// A layer of a premium discount schedule: its width in dollars, its rate in tenths of a percent.
+#[repr(C)]
+#[derive(Clone, Copy, Debug, Default, PartialEq, Eq)]
+pub struct Layer {
+    pub width: u32,
+    pub rate: u32,
+}
+
+/// A premium discount schedule. The width in the last row is not looked at.
+#[repr(C)]
+#[derive(Clone, Copy, Debug, Default, PartialEq, Eq)]
+pub struct Schedule {
+    pub layers: [Layer; 4],
+}
+
+impl From<[second_rater::Layer; 4]> for Schedule {
+    fn from(layers: [second_rater::Layer; 4]) -> Schedule {
+        Schedule {
+            layers: layers.map(|layer| Layer {
+                width: layer.width,
+                rate: layer.rate,
+            }),
+        }
+    }
+}
+
+/// The numbers that Guaranteed gives: Rate's four, then its own three.
+#[derive(Clone, Copy, Debug, Default, PartialEq, Eq)]
+pub struct Numbers {
+    pub risks: u32,
+    pub basic: u64,
+    pub excess: u64,
+    pub billed: u64,
+    pub discount: u32,
+    pub guaranteed: u32,
+    pub difference: i64,
+}
+
+impl Numbers {
+    /// Lends them all.
+    pub fn lend(&mut self) -> Lent<'_> {
+        Lent {
+            risks: &mut self.risks,
+            basic: &mut self.basic,
+            excess: &mut self.excess,
+            billed: &mut self.billed,
+            discount: &mut self.discount,
+            guaranteed: &mut self.guaranteed,
+            difference: &mut self.difference,
+        }
+    }
+}
+
+/// The numbers of Guaranteed where they lie.
+pub struct Lent<'a> {
+    pub risks: &'a mut u32,
+    pub basic: &'a mut u64,
+    pub excess: &'a mut u64,
+    pub billed: &'a mut u64,
+    pub discount: &'a mut u32,
+    pub guaranteed: &'a mut u32,
+    pub difference: &'a mut i64,
+}
+
+impl Lent<'_> {
+    /// What they hold.
+    pub fn numbers(&self) -> Numbers {
+        Numbers {
+            risks: *self.risks,
+            basic: *self.basic,
+            excess: *self.excess,
+            billed: *self.billed,
+            discount: *self.discount,
+            guaranteed: *self.guaranteed,
+            difference: *self.difference,
+        }
+    }
+}
+
 /// The calls as C sees them.
 pub mod raw {
-    use super::{Group, Header};
+    use super::{Group, Header, Schedule};
 
     extern "C" {
         pub fn retro_rate(
@@ -105,6 +184,22 @@ pub mod raw {
             basic: *mut u64,
             excess: *mut u64,
             billed: *mut u64,
+        ) -> u32;
+        pub fn retro_guaranteed(
+            file: *const u8,
+            file_len: usize,
+            schedule: Schedule,
+            premiums: *mut u8,
+            premiums_len: usize,
+            differences: *mut i64,
+            differences_len: usize,
+            risks: *mut u32,
+            basic: *mut u64,
+            excess: *mut u64,
+            billed: *mut u64,
+            discount: *mut u32,
+            guaranteed: *mut u32,
+            difference: *mut i64,
         ) -> u32;
         pub fn retro_table(
             file: *const u8,
@@ -154,6 +249,36 @@ pub fn rate(
             basic,
             excess,
             billed,
+        )
+    }
+}
+
+/// Guaranteed: 0, or the number of the first question that the file, a buffer or the schedule
+/// fails.
+pub fn guaranteed(
+    file: &[u8],
+    schedule: Schedule,
+    premiums: &mut [u8],
+    differences: &mut [i64],
+    lent: &mut Lent,
+) -> u32 {
+    // SAFETY: as in `rate`.
+    unsafe {
+        raw::retro_guaranteed(
+            file.as_ptr(),
+            file.len(),
+            schedule,
+            premiums.as_mut_ptr(),
+            premiums.len(),
+            differences.as_mut_ptr(),
+            differences.len(),
+            lent.risks,
+            lent.basic,
+            lent.excess,
+            lent.billed,
+            lent.discount,
+            lent.guaranteed,
+            lent.difference,
         )
     }
 }

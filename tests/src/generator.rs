@@ -1,8 +1,8 @@
-//! Generated groups, damaged files and values for Write, with the corners of every field more often
-//! than chance has them.
+//! Generated groups, damaged files, values for Write and schedules, with the corners of every field
+//! more often than chance has them.
 
 use crate::samples::{Sample, AMPLE};
-use crate::second_rater::{self, Header};
+use crate::second_rater::{self, Header, Layer};
 
 /// The largest claim, loss limit and expense provision.
 const LARGEST: u32 = (1 << 20) - 1;
@@ -52,6 +52,12 @@ pub fn set(file: &mut [u8], field: Field, value: u32) {
     }
 }
 
+/// The value of a field of the file, which need not be in its header; bits past its end are 0.
+pub fn get(file: &[u8], field: Field) -> u32 {
+    let bit = |at: usize| at / 8 < file.len() && file[at / 8] & (0x80 >> (at % 8)) != 0;
+    (field.at..field.at + field.width).fold(0, |value, at| 2 * value + u32::from(bit(at)))
+}
+
 /// The length in bits of a group's file without the fill bits.
 pub fn bits(risks: usize, claims: usize) -> usize {
     128 + 6 * risks + 20 * claims
@@ -70,6 +76,55 @@ impl Values {
     pub fn length(&self) -> usize {
         bits(self.counts.len(), self.claims.len()).div_ceil(8)
     }
+}
+
+/// What Guaranteed is given, sound or not.
+#[derive(Clone, Debug)]
+pub struct Quote {
+    pub file: Vec<u8>,
+    pub schedule: [Layer; 4],
+    /// The length of the premiums in bytes.
+    pub premiums_room: usize,
+    /// The length of the differences in entries.
+    pub differences_room: usize,
+}
+
+impl Quote {
+    /// The standard premium that the file has by its bytes.
+    pub fn standard_premium(&self) -> u32 {
+        get(&self.file, STANDARD_PREMIUM)
+    }
+
+    /// The dollars of the standard premium in each layer.
+    pub fn parts(&self) -> [u64; 4] {
+        parts(&self.schedule, self.standard_premium())
+    }
+
+    /// The discount in thousandths of a dollar.
+    pub fn thousandths(&self) -> u64 {
+        thousandths(&self.schedule, self.standard_premium())
+    }
+}
+
+/// The dollars of a standard premium in each layer.
+fn parts(schedule: &[Layer; 4], standard_premium: u32) -> [u64; 4] {
+    let mut left = u64::from(standard_premium);
+    let mut parts = [0; 4];
+    for (part, layer) in parts.iter_mut().zip(&schedule[..3]) {
+        *part = left.min(layer.width.into());
+        left -= *part;
+    }
+    parts[3] = left;
+    parts
+}
+
+/// The discount on a standard premium in thousandths of a dollar.
+fn thousandths(schedule: &[Layer; 4], standard_premium: u32) -> u64 {
+    let parts = parts(schedule, standard_premium).into_iter();
+    parts
+        .zip(schedule)
+        .map(|(part, layer)| part * u64::from(layer.rate))
+        .sum()
 }
 
 /// A splitmix generator of 64 bits.
@@ -117,6 +172,17 @@ impl Random {
 
     pub fn bytes(&mut self, len: usize) -> Vec<u8> {
         (0..len).map(|_| self.word() as u8).collect()
+    }
+
+    /// A buffer's length: mostly enough, else just too short or any.
+    pub fn room(&mut self, enough: usize) -> usize {
+        match self.between(0, 15) {
+            0 => self.within(0, enough + 8),
+            1 => enough.saturating_sub(1),
+            2 => enough.saturating_sub(self.within(1, 5)),
+            3..=9 => enough,
+            _ => enough + self.within(0, 9),
+        }
     }
 
     // ---- groups
@@ -385,6 +451,111 @@ impl Random {
             if self.one_in(16) {
                 set(file, field, self.word() as u32);
             }
+        }
+    }
+
+    // ---- schedules
+
+    /// A file, sound or damaged, with a schedule for its standard premium and buffers' lengths for
+    /// its number of risks.
+    pub fn quote(&mut self) -> Quote {
+        let file = self.file();
+        let risks = get(&file, RISKS) as usize;
+        Quote {
+            schedule: self.schedule(get(&file, STANDARD_PREMIUM)),
+            premiums_room: self.room(4 * risks),
+            differences_room: self.room(risks),
+            file,
+        }
+    }
+
+    /// A schedule: sound, or with a rate above 1,000, a width of 0 or both.
+    pub fn schedule(&mut self, standard_premium: u32) -> [Layer; 4] {
+        let (widths, rates) = (self.widths(standard_premium), self.rates());
+        let mut schedule = [0, 1, 2, 3].map(|k| Layer {
+            width: widths[k],
+            rate: rates[k],
+        });
+        if self.one_in(4) {
+            self.bring_discount_near_a_half(&mut schedule, standard_premium);
+        }
+        match self.between(0, 7) {
+            0 => self.spoil_a_rate(&mut schedule),
+            1 => self.spoil_a_width(&mut schedule),
+            2 => {
+                self.spoil_a_rate(&mut schedule);
+                self.spoil_a_width(&mut schedule);
+            }
+            _ => {}
+        }
+        schedule
+    }
+
+    /// Widths of which the first three are not 0: some that the standard premium ends at or beside,
+    /// some that add past 32 bits.
+    fn widths(&mut self, standard_premium: u32) -> [u32; 4] {
+        let mut widths = [0; 4];
+        let mut end = 0u32;
+        for width in &mut widths[..3] {
+            let left = standard_premium.saturating_sub(end);
+            *width = match self.between(0, 9) {
+                0 => 1,
+                1 => u32::MAX,
+                // the end of the layer is that of the standard premium, or a dollar from it
+                2 | 3 => self.one_of(&[left.saturating_sub(1), left, left + 1]),
+                // cut to 32 bits the end of the layer is at most the standard premium
+                4 => self.between(0, standard_premium).wrapping_sub(end),
+                5 => self.of_any_size(32),
+                6 => self.of_any_size(22),
+                _ => self.between(0, left),
+            }
+            .max(1);
+            end = end.wrapping_add(*width);
+        }
+        let any = self.of_any_size(32);
+        widths[3] = self.one_of(&[0, 0, 1, standard_premium, any, u32::MAX]);
+        widths
+    }
+
+    /// Rates that are at most 1,000.
+    fn rates(&mut self) -> [u32; 4] {
+        let kind = self.between(0, 5);
+        [0; 4].map(|_| match kind {
+            0 => 125 * self.between(0, 8),
+            1 => self.one_of(&[0, 0, 1, 499, 500, 501, 999, 1_000, 1_000]),
+            2 => self.between(0, 200),
+            3 => self.of_any_size(10).min(1_000),
+            _ => self.between(0, 1_000),
+        })
+    }
+
+    /// Gives the first dollar a layer of its own, at the rate that brings the discount to an exact
+    /// half, or to a thousandth from it.
+    fn bring_discount_near_a_half(&mut self, schedule: &mut [Layer; 4], standard_premium: u32) {
+        schedule[0] = Layer { width: 1, rate: 0 };
+        let others = thousandths(schedule, standard_premium) % 1_000;
+        let sought = self.one_of(&[1_499, 1_500, 1_500, 1_501]);
+        schedule[0].rate = ((sought - others) % 1_000) as u32;
+    }
+
+    /// A rate above 1,000, mostly one alone.
+    fn spoil_a_rate(&mut self, schedule: &mut [Layer; 4]) {
+        let k = self.within(0, 3);
+        let kept = schedule[k].rate;
+        let any = self.between(1_001, u32::MAX);
+        // some with the sound rate in the low bits
+        let above = [1_001, 2_000, kept | 1 << 16, kept | 1 << 31, u32::MAX, any];
+        schedule[k].rate = self.one_of(&above);
+        if self.one_in(4) {
+            schedule[self.within(0, 3)].rate = u32::MAX;
+        }
+    }
+
+    /// A width of 0 among the first three, mostly one alone.
+    fn spoil_a_width(&mut self, schedule: &mut [Layer; 4]) {
+        schedule[self.within(0, 2)].width = 0;
+        if self.one_in(4) {
+            schedule[self.within(0, 3)].width = 0;
         }
     }
 

@@ -46,6 +46,7 @@ pub trait Number: Copy {}
 impl Number for u8 {}
 impl Number for u32 {}
 impl Number for u64 {}
+impl Number for i64 {}
 impl Number for usize {}
 
 /// The size of a page in bytes.
@@ -131,9 +132,15 @@ impl Sparse {
     }
 
     pub fn bytes(&mut self) -> &mut [u8] {
-        // SAFETY: the mapping has that many readable and writable bytes, and the borrow of self
-        // keeps the slice the only one.
-        unsafe { slice::from_raw_parts_mut(self.mapping, self.len) }
+        self.numbers()
+    }
+
+    /// The same bytes as numbers.
+    pub fn numbers<T: Number>(&mut self) -> &mut [T] {
+        // SAFETY: the mapping has that many readable and writable bytes, pages are aligned for
+        // every number, any bytes are a number, and the borrow of self keeps the slice the only
+        // one.
+        unsafe { slice::from_raw_parts_mut(self.mapping.cast(), self.len / size_of::<T>()) }
     }
 }
 

@@ -5,9 +5,9 @@
 //! against the one after it. What is lent is preset, so that a part that must keep its contents is
 //! seen to keep them.
 
-use crate::calls::{self, Group, Header};
+use crate::calls::{self, Group, Header, Lent, Numbers};
 use crate::guard::{Guarded, PLACES};
-use crate::second_rater;
+use crate::second_rater::{self, Guaranteed, Layer, Rated};
 use std::fmt;
 
 // What the lent numbers hold before a call.
@@ -18,6 +18,15 @@ const BILLED: u64 = 0x5a5a_a5a5_3c3c_c3c3;
 const CHARGE: u32 = 0x1357_9bdf;
 const SAVINGS: u32 = 0x2468_ace0;
 const LENGTH: usize = 0x0f1e_2d3c_4b5a_6978;
+const NUMBERS: Numbers = Numbers {
+    risks: RISKS,
+    basic: BASIC,
+    excess: EXCESS,
+    billed: BILLED,
+    discount: 0xb4a5_9687,
+    guaranteed: 0x7869_5a4b,
+    difference: -0x1122_3344_5566_7788,
+};
 
 /// Byte k of a buffer before a call.
 fn preset_byte(k: usize) -> u8 {
@@ -29,15 +38,22 @@ fn preset_claim(k: usize) -> u32 {
     (k as u32).wrapping_mul(0x9e37_79b1) ^ 0xdead_beef
 }
 
-/// The four calls, in the order of document 01.
+/// Difference k of a buffer before a call.
+fn preset_difference(k: usize) -> i64 {
+    (k as i64).wrapping_mul(0x9e37_79b9_7f4a_7c15u64 as i64) ^ 0x0ddb_a115_dead_beef
+}
+
+/// The calls: those of document 01 in its order, then that of document 02's job 1.
 #[derive(Clone, Copy, Debug, PartialEq, Eq)]
 pub enum Call {
     Rate,
     Table,
     Read,
     Write,
+    Guaranteed,
 }
 
+/// The calls of document 01.
 pub const CALLS: [Call; 4] = [Call::Rate, Call::Table, Call::Read, Call::Write];
 
 impl Call {
@@ -48,13 +64,14 @@ impl Call {
             Call::Table => &[0, 1, 2, 3, 4, 5, 6, 7, 8, 9, 10, 14],
             Call::Read => &[0, 1, 2, 3, 4, 5, 6, 7, 8, 9, 13],
             Call::Write => &[0, 3, 4, 5, 6, 7, 13, 15],
+            Call::Guaranteed => &[0, 1, 2, 3, 4, 5, 6, 7, 8, 9, 10, 11, 12, 13, 16, 17],
         }
     }
 }
 
 /// How often each call gave each answer; 0 is an acceptance.
 #[derive(Clone, Default)]
-pub struct Counts([[u64; 16]; 4]);
+pub struct Counts([[u64; 18]; 5]);
 
 impl Counts {
     fn add(&mut self, call: Call, answer: u32) {
@@ -73,10 +90,10 @@ impl Counts {
         }
     }
 
-    /// The answers of each call that occurred fewer times than this.
-    pub fn rarer_than(&self, least: u64) -> Vec<(Call, u32)> {
+    /// The answers of these calls that occurred fewer times than this.
+    pub fn rarer_than(&self, least: u64, calls: &[Call]) -> Vec<(Call, u32)> {
         let mut rare = Vec::new();
-        for call in CALLS {
+        for &call in calls {
             for &answer in call.answers() {
                 if self.of(call, answer) < least {
                     rare.push((call, answer));
@@ -85,28 +102,31 @@ impl Counts {
         }
         rare
     }
-}
 
-impl fmt::Display for Counts {
-    /// One line an answer, one column a call; a dash where the call cannot give the answer.
-    fn fmt(&self, f: &mut fmt::Formatter) -> fmt::Result {
-        write!(f, "{:<10}", "answer")?;
-        for call in CALLS {
-            write!(f, "{:>12}", format!("{call:?}"))?;
+    /// One line an answer, one column for each of these calls; a dash where the call cannot give
+    /// the answer, and no line where none of them can.
+    pub fn lines(&self, calls: &[Call]) -> String {
+        let mut lines = format!("{:<10}", "answer");
+        for call in calls {
+            lines += &format!("{:>12}", format!("{call:?}"));
         }
-        for answer in 0..16 {
-            match answer {
-                0 => write!(f, "\n{:<10}", "accepted")?,
-                _ => write!(f, "\nrefused {answer:<2}")?,
+        for answer in 0..18 {
+            let gives = |call: &Call| call.answers().contains(&answer);
+            if !calls.iter().any(gives) {
+                continue;
             }
-            for call in CALLS {
-                match call.answers().contains(&answer) {
-                    true => write!(f, "{:>12}", self.of(call, answer))?,
-                    false => write!(f, "{:>12}", "-")?,
-                }
+            lines += &match answer {
+                0 => format!("\n{:<10}", "accepted"),
+                _ => format!("\nrefused {answer:<2}"),
+            };
+            for call in calls {
+                lines += &match gives(call) {
+                    true => format!("{:>12}", self.of(*call, answer)),
+                    false => format!("{:>12}", "-"),
+                };
             }
         }
-        Ok(())
+        lines
     }
 }
 
@@ -120,6 +140,9 @@ pub struct HeldCalls {
     amounts: [Guarded<u64>; 3],
     ratios: [Guarded<u32>; 2],
     length: Guarded<usize>,
+    differences: Guarded<i64>,
+    costs: [Guarded<u32>; 2],
+    difference: Guarded<i64>,
     pub given: Counts,
 }
 
@@ -141,6 +164,9 @@ impl HeldCalls {
             amounts: [Guarded::new(1), Guarded::new(1), Guarded::new(1)],
             ratios: [Guarded::new(1), Guarded::new(1)],
             length: Guarded::new(1),
+            differences: Guarded::new(1 << 11),
+            costs: [Guarded::new(1), Guarded::new(1)],
+            difference: Guarded::new(1),
             given: Counts::default(),
         }
     }
@@ -152,9 +178,7 @@ impl HeldCalls {
         let answer = match second_rater::rate(file, room) {
             Err(question) => question,
             Ok(rated) => {
-                for (four, &premium) in premiums.chunks_exact_mut(4).zip(&rated.premiums) {
-                    four.copy_from_slice(&number::<u32, _>(premium).to_be_bytes());
-                }
+                put_premiums(&mut premiums, &rated);
                 let (basic, excess) = (number(rated.basic), number(rated.excess));
                 numbers = (rated.risks, basic, excess, number(rated.billed));
                 0
@@ -182,6 +206,70 @@ impl HeldCalls {
             same(&*lent, file, "file after the call", about);
         }
         self.given.add(Call::Rate, answer);
+        answer
+    }
+
+    /// Guaranteed of a file and a schedule into buffers of so many bytes and so many differences.
+    pub fn guaranteed(
+        &mut self,
+        file: &[u8],
+        schedule: &[Layer; 4],
+        premiums_room: usize,
+        differences_room: usize,
+    ) -> u32 {
+        let mut premiums: Vec<u8> = (0..premiums_room).map(preset_byte).collect();
+        let mut differences: Vec<i64> = (0..differences_room).map(preset_difference).collect();
+        let mut numbers = NUMBERS;
+        let given = second_rater::guaranteed(file, schedule, premiums_room, differences_room);
+        let answer = match given {
+            Err(question) => question,
+            Ok(given) => {
+                put_premiums(&mut premiums, &given.rated);
+                for (entry, &difference) in differences.iter_mut().zip(&given.differences) {
+                    *entry = number(difference);
+                }
+                numbers = numbers_of(&given);
+                0
+            }
+        };
+        let [basic, excess, billed] = &mut self.amounts;
+        let [discount, guaranteed] = &mut self.costs;
+        for place in PLACES {
+            let lent_file = self.file.copy(file, place);
+            let premiums_buffer = self.premiums.slice(premiums_room, place);
+            let differences_buffer = self.differences.slice(differences_room, place);
+            fill(premiums_buffer, preset_byte);
+            fill(differences_buffer, preset_difference);
+            let mut lent = Lent {
+                risks: self.risks.number(NUMBERS.risks, place),
+                basic: basic.number(NUMBERS.basic, place),
+                excess: excess.number(NUMBERS.excess, place),
+                billed: billed.number(NUMBERS.billed, place),
+                discount: discount.number(NUMBERS.discount, place),
+                guaranteed: guaranteed.number(NUMBERS.guaranteed, place),
+                difference: self.difference.number(NUMBERS.difference, place),
+            };
+            let given = calls::guaranteed(
+                lent_file,
+                (*schedule).into(),
+                premiums_buffer,
+                differences_buffer,
+                &mut lent,
+            );
+            let about = || {
+                let rooms = format!("{premiums_room} bytes and {differences_room} numbers lent");
+                format!(
+                    "Guaranteed, {schedule:?}, {rooms}, {place:?}, {}",
+                    Bytes(file)
+                )
+            };
+            same(given, answer, "answer", about);
+            same(lent.numbers(), numbers, "numbers", about);
+            same(&*premiums_buffer, &premiums[..], "premiums", about);
+            same(&*differences_buffer, &differences[..], "differences", about);
+            same(&*lent_file, file, "file after the call", about);
+        }
+        self.given.add(Call::Guaranteed, answer);
         answer
     }
 
@@ -294,6 +382,26 @@ impl HeldCalls {
         same(answer, 0, "answer", about);
         same(length, file.len(), "length", about);
         same(&again[..], file, "bytes", about);
+    }
+}
+
+/// The numbers of Guaranteed as the call gives them.
+fn numbers_of(given: &Guaranteed) -> Numbers {
+    Numbers {
+        risks: given.rated.risks,
+        basic: number(given.rated.basic),
+        excess: number(given.rated.excess),
+        billed: number(given.rated.billed),
+        discount: number(given.discount),
+        guaranteed: number(given.guaranteed),
+        difference: number(given.difference),
+    }
+}
+
+/// Puts the premiums of a rated group at the start of a buffer.
+fn put_premiums(buffer: &mut [u8], rated: &Rated) {
+    for (four, &premium) in buffer.chunks_exact_mut(4).zip(&rated.premiums) {
+        four.copy_from_slice(&number::<u32, _>(premium).to_be_bytes());
     }
 }
 

@@ -1,9 +1,10 @@
 //! What is tested beside the proofs: the exported calls from outside, held to a second rater.
 //!
-//! - `calls`: the four exported calls of target/staticlib/libretro_c.a.
-//! - `second_rater`: the second rater, written from document 01 alone.
+//! - `calls`: the five exported calls of target/staticlib/libretro_c.a.
+//! - `second_rater`: the second rater, written from documents 01 and 02 alone.
 //! - `straightforward`: a rater for Rate alone, the benchmark's baseline.
-//! - `samples` and `generator`: known groups, generated groups and damaged files.
+//! - `samples` and `generator`: known groups and schedules, generated groups and schedules, and
+//!   damaged files.
 //! - `text`: the text of a group, for people.
 //! - `guard` and `held_calls`: memory between unreadable pages, and the calls held to the second
 //!   rater in it.

@@ -1,6 +1,6 @@
-//! The groups of document 01 and other known groups.
+//! The groups of document 01, the schedule of document 02 and other known groups.
 
-use crate::second_rater::{self, Group, Header};
+use crate::second_rater::{self, Group, Header, Layer};
 
 /// A buffer's length that is enough for every call.
 pub const AMPLE: usize = 1 << 20;
@@ -92,6 +92,14 @@ pub fn one_claim_of_one(n: usize) -> Sample {
     }
 }
 
+/// A group of one risk with this P. Its marks are entry ratios, so P changes no
+/// premium: M is 0, K is 1, and 1 dollar is billed.
+pub fn one_risk(standard_premium: u32) -> Sample {
+    let mut sample = one_claim_of_one(1);
+    sample.header.standard_premium = standard_premium;
+    sample
+}
+
 /// Two risks of 10: e 0, T 1.0000, no limit, entry marks 6.000 and 0. The
 /// document leaves P open; P is 1 here.
 pub fn two_risks_of_ten(conversion: u32) -> Sample {
@@ -166,4 +174,14 @@ pub fn largest() -> Sample {
         },
         risks: vec![vec![(1 << 20) - 1; 63]; 255],
     }
+}
+
+/// A schedule from its rows of width and rate.
+pub fn schedule(rows: [(u32, u32); 4]) -> [Layer; 4] {
+    rows.map(|(width, rate)| Layer { width, rate })
+}
+
+/// The stock schedule of 1986 in document 001, which document 02 uses.
+pub fn stock() -> [Layer; 4] {
+    schedule([(5_000, 0), (95_000, 109), (400_000, 126), (0, 144)])
 }

@@ -1,18 +1,21 @@
-//! The comparison: the exported calls against the second rater on generated and damaged files and
-//! values, every number and every byte, everything lent lying against unreadable pages.
+//! The comparison: the exported calls against the second rater on generated and damaged files,
+//! values and schedules, every number and every byte, everything lent lying against unreadable
+//! pages.
 //!
-//! The gate runs 400,000 files from a fixed seed. A longer run, with another seed:
+//! The gate runs 400,000 files for the calls of document 01, and 240,000 files with schedules for
+//! Guaranteed, from a fixed seed. A longer run, with another seed:
 //!
-//!     RETRO_FILES=5000000 RETRO_SEED=7 cargo test --offline --release --test compare -- generated_files
+//!     RETRO_FILES=5000000 RETRO_SEED=7 cargo test --offline --release --test compare -- generated
 
-use retro_tests::calls::{self, raw, Group};
-use retro_tests::generator::{set, Random, RISKS, STANDARD_PREMIUM};
+use retro_tests::calls::{self, raw, Group, Numbers};
+use retro_tests::generator::{get, set, Field, Random, HEADER, RISKS, STANDARD_PREMIUM};
 use retro_tests::guard::Sparse;
-use retro_tests::held_calls::{Call, Counts, HeldCalls};
+use retro_tests::held_calls::{Call, Counts, HeldCalls, CALLS};
 use retro_tests::samples::{
-    crossed_marks, four_risks, largest, one_claim_of_one, ten_risks, two_risks_of_ten, Sample,
+    crossed_marks, four_risks, largest, one_claim_of_one, schedule, stock, ten_risks,
+    two_risks_of_ten, Sample,
 };
-use retro_tests::second_rater::{self, Header};
+use retro_tests::second_rater::{self, Header, Layer};
 use std::io::{self, Write};
 use std::sync::atomic::{AtomicU64, Ordering};
 use std::time::Instant;
@@ -20,12 +23,16 @@ use std::{env, ptr, thread};
 
 /// Files in the gate.
 const FILES: u64 = 400_000;
+/// Files with schedules in the gate.
+const QUOTES: u64 = 240_000;
 /// The seed in the gate.
 const SEED: u64 = 1_965;
 /// Files from one state of the generator, so that the files do not depend on the number of threads.
 const BATCH: u64 = 500;
 /// How often each answer of each call must occur at least.
 const LEAST: u64 = 100;
+/// How often each answer of Guaranteed must occur at least, and a discount at an exact half.
+const LEAST_OF_QUOTES: u64 = 500;
 
 /// A number from the environment in decimal digits, or the gate's.
 fn setting(name: &str, gate: u64) -> u64 {
@@ -48,23 +55,64 @@ fn generated_files() {
     let seed = setting("RETRO_SEED", SEED);
     say(&format!("comparison: {files} files, seed {seed}"));
     let start = Instant::now();
-    let counts = compare_in_threads(files.div_ceil(BATCH), seed);
-    say(&format!("{counts}"));
+    let counts = compare_in_threads(files, seed, |held_calls, random| {
+        let file = random.file();
+        compare_file(held_calls, random, &file);
+        compare_values(held_calls, random);
+    });
+    say(&counts.lines(&CALLS));
     say(&format!(
         "comparison: no difference, {:.1} s",
         start.elapsed().as_secs_f64()
     ));
-    let rare = counts.rarer_than(LEAST);
+    let rare = counts.rarer_than(LEAST, &CALLS);
     assert!(rare.is_empty(), "fewer than {LEAST} times: {rare:?}");
 }
 
-/// Runs the batches on all cores. Gives how often each call gave each answer.
-fn compare_in_threads(batches: u64, seed: u64) -> Counts {
+#[test]
+fn generated_schedules() {
+    let files = setting("RETRO_FILES", QUOTES);
+    let seed = setting("RETRO_SEED", SEED);
+    say(&format!(
+        "comparison: {files} files with schedules, seed {seed}"
+    ));
+    let start = Instant::now();
+    let halves = AtomicU64::new(0);
+    let counts = compare_in_threads(files, seed, |held_calls, random| {
+        let quote = random.quote();
+        let rooms = (quote.premiums_room, quote.differences_room);
+        let answer = held_calls.guaranteed(&quote.file, &quote.schedule, rooms.0, rooms.1);
+        if answer == 0 && quote.thousandths() % 1_000 == 500 {
+            halves.fetch_add(1, Ordering::Relaxed);
+        }
+    });
+    let halves = halves.into_inner();
+    say(&counts.lines(&[Call::Guaranteed]));
+    say(&format!(
+        "comparison: no difference, {halves} discounts at an exact half, {:.1} s",
+        start.elapsed().as_secs_f64()
+    ));
+    let rare = counts.rarer_than(LEAST_OF_QUOTES, &[Call::Guaranteed]);
+    assert!(
+        rare.is_empty(),
+        "fewer than {LEAST_OF_QUOTES} times: {rare:?}"
+    );
+    assert!(halves >= LEAST_OF_QUOTES, "{halves} exact halves");
+}
+
+/// Makes so many comparisons, in whole batches, on all cores. Gives how often each call gave each
+/// answer.
+fn compare_in_threads(
+    comparisons: u64,
+    seed: u64,
+    compare: impl Fn(&mut HeldCalls, &mut Random) + Sync,
+) -> Counts {
+    let batches = comparisons.div_ceil(BATCH);
     let next = AtomicU64::new(0);
     let mut counts = Counts::default();
     thread::scope(|scope| {
         let workers: Vec<_> = (0..thread::available_parallelism().map_or(1, usize::from))
-            .map(|_| scope.spawn(|| compare_batches(&next, batches, seed)))
+            .map(|_| scope.spawn(|| compare_batches(&next, batches, seed, &compare)))
             .collect();
         for worker in workers {
             counts.merge(&worker.join().expect("a difference"));
@@ -74,7 +122,12 @@ fn compare_in_threads(batches: u64, seed: u64) -> Counts {
 }
 
 /// Takes batches until there are none left.
-fn compare_batches(next: &AtomicU64, batches: u64, seed: u64) -> Counts {
+fn compare_batches(
+    next: &AtomicU64,
+    batches: u64,
+    seed: u64,
+    compare: impl Fn(&mut HeldCalls, &mut Random),
+) -> Counts {
     let mut held_calls = HeldCalls::new();
     loop {
         let batch = next.fetch_add(1, Ordering::Relaxed);
@@ -83,9 +136,7 @@ fn compare_batches(next: &AtomicU64, batches: u64, seed: u64) -> Counts {
         }
         let mut random = Random::new(Random::new(seed ^ batch.rotate_left(32)).word());
         for _ in 0..BATCH {
-            let file = random.file();
-            compare_file(&mut held_calls, &mut random, &file);
-            compare_values(&mut held_calls, &mut random);
+            compare(&mut held_calls, &mut random);
         }
     }
 }
@@ -93,16 +144,15 @@ fn compare_batches(next: &AtomicU64, batches: u64, seed: u64) -> Counts {
 /// Rate, Table and Read of a file, and Write of what Read gives.
 fn compare_file(held_calls: &mut HeldCalls, random: &mut Random, file: &[u8]) {
     let (risks, claims) = sizes(file);
-    let room = around(random, 4 * risks);
-    held_calls.rate(file, room);
+    held_calls.rate(file, random.room(4 * risks));
     let entry_ratio = match random.between(0, 7) {
         0 => random.one_of(&[0, 1, 99, 100, 101, 599, 600]),
         1 => random.one_of(&[601, 602, 1_000, 65_536, 65_636, 1 << 31, u32::MAX]),
         _ => random.between(0, 600),
     };
     held_calls.table(file, entry_ratio);
-    let counts_room = around(random, risks);
-    let claims_room = around(random, claims);
+    let counts_room = random.room(risks);
+    let claims_room = random.room(claims);
     if held_calls.read(file, counts_room, claims_room) == 0 {
         held_calls.write_back(file);
     }
@@ -111,35 +161,21 @@ fn compare_file(held_calls: &mut HeldCalls, random: &mut Random, file: &[u8]) {
 /// Write of values that may be sound or not.
 fn compare_values(held_calls: &mut HeldCalls, random: &mut Random) {
     let values = random.values();
-    let room = around(random, values.length());
+    let room = random.room(values.length());
     held_calls.write(&values.header, &values.counts, &values.claims, room);
 }
 
 /// The number of risks and of claims that a file has by its bytes, whatever the questions say to
 /// it.
 fn sizes(file: &[u8]) -> (usize, usize) {
-    let bit =
-        |at: usize| usize::from(at / 8 < file.len() && file[at / 8] & (0x80 >> (at % 8)) != 0);
-    let take = |at: usize, width: usize| (at..at + width).fold(0, |value, k| 2 * value + bit(k));
-    let risks = take(RISKS.at, RISKS.width);
-    let (mut at, mut claims) = (128, 0);
+    let risks = get(file, RISKS) as usize;
+    let (mut at, mut claims) = (8 * HEADER, 0);
     for _ in 0..risks {
-        let count = take(at, 6);
+        let count = get(file, Field { at, width: 6 }) as usize;
         claims += count;
         at += 6 + 20 * count;
     }
     (risks, claims)
-}
-
-/// A buffer's length: mostly enough, else just too short or any.
-fn around(random: &mut Random, enough: usize) -> usize {
-    match random.between(0, 15) {
-        0 => random.within(0, enough + 8),
-        1 => enough.saturating_sub(1),
-        2 => enough.saturating_sub(random.within(1, 5)),
-        3..=9 => enough,
-        _ => enough + random.within(0, 9),
-    }
 }
 
 /// Known groups, of which some fall at questions 10, 11 and 12.
@@ -164,11 +200,13 @@ fn known() -> Vec<Sample> {
     ]
 }
 
-/// Rate, Table and Read of a file with room enough. Gives Read's answer.
+/// Rate, Guaranteed, Table and Read of a file with room enough. Gives Read's answer.
 fn all_calls(held_calls: &mut HeldCalls, file: &[u8]) -> u32 {
-    held_calls.rate(file, 4 * second_rater::MOST_RISKS);
+    let most = second_rater::MOST_RISKS;
+    held_calls.rate(file, 4 * most);
+    held_calls.guaranteed(file, &stock(), 4 * most, most);
     held_calls.table(file, 100);
-    held_calls.read(file, second_rater::MOST_RISKS, 1_000)
+    held_calls.read(file, most, 1_000)
 }
 
 #[test]
@@ -227,6 +265,82 @@ fn each_length_of_the_premiums() {
         for room in 0..=4 * n + 9 {
             let answer = held_calls.rate(&file, room);
             assert_eq!(answer, if room < 4 * n { 13 } else { 0 });
+        }
+    }
+}
+
+#[test]
+fn each_length_of_premiums_and_differences() {
+    let mut held_calls = HeldCalls::new();
+    for n in [1, 2, 3, 4] {
+        let file = one_claim_of_one(n).file();
+        for premiums_room in 0..=4 * n + 9 {
+            for differences_room in 0..=n + 9 {
+                let answer =
+                    held_calls.guaranteed(&file, &stock(), premiums_room, differences_room);
+                let enough = premiums_room >= 4 * n && differences_room >= n;
+                assert_eq!(answer, if enough { 0 } else { 13 });
+            }
+        }
+    }
+    for n in [63, 64, 128, 254, 255] {
+        let file = one_claim_of_one(n).file();
+        for room in 0..=4 * n + 9 {
+            let answer = held_calls.guaranteed(&file, &stock(), room, n);
+            assert_eq!(answer, if room < 4 * n { 13 } else { 0 });
+            let answer = held_calls.guaranteed(&file, &stock(), 4 * n, room);
+            assert_eq!(answer, if room < n { 13 } else { 0 });
+        }
+    }
+}
+
+#[test]
+fn each_rate_and_width() {
+    let mut held_calls = HeldCalls::new();
+    let file = four_risks().file();
+    for row in 0..4 {
+        for power in 0..32 {
+            for value in [
+                (1 << power) - 1,
+                1 << power,
+                (1 << power) + 1,
+                !(1 << power),
+            ] {
+                let mut layers = stock();
+                layers[row].rate = value;
+                let answer = held_calls.guaranteed(&file, &layers, 16, 4);
+                assert_eq!(answer, if value > 1_000 { 16 } else { 0 });
+                let mut layers = stock();
+                layers[row].width = value;
+                let answer = held_calls.guaranteed(&file, &layers, 16, 4);
+                assert_eq!(answer, if value == 0 && row < 3 { 17 } else { 0 });
+            }
+        }
+        for rate in 0..=1_100 {
+            let mut layers = stock();
+            layers[row].rate = rate;
+            let answer = held_calls.guaranteed(&file, &layers, 16, 4);
+            assert_eq!(answer, if rate > 1_000 { 16 } else { 0 });
+        }
+    }
+}
+
+#[test]
+fn each_standard_premium_around_the_ends_of_layers() {
+    // Entry ratio marks: the standard premium changes no premium, and each is accepted.
+    let mut held_calls = HeldCalls::new();
+    let mut file = one_claim_of_one(2).file();
+    let mut compare = |layers: &[Layer; 4], standard_premium: u32| {
+        set(&mut file, STANDARD_PREMIUM, standard_premium);
+        assert_eq!(held_calls.guaranteed(&file, layers, 8, 2), 0);
+    };
+    let layers = schedule([(7, 125), (11, 375), (13, 250), (0, 500)]);
+    for standard_premium in 1..=99 {
+        compare(&layers, standard_premium);
+    }
+    for end in [5_000, 100_000, 500_000, 4_194_283] {
+        for standard_premium in end - 20..=end + 20 {
+            compare(&stock(), standard_premium);
         }
     }
 }
@@ -465,6 +579,53 @@ fn null_pointers_where_the_count_is_0() {
 }
 
 #[test]
+fn guaranteed_with_null_pointers_where_the_count_is_0() {
+    let before = Numbers {
+        risks: 1,
+        basic: 2,
+        excess: 3,
+        billed: 4,
+        discount: 5,
+        guaranteed: 6,
+        difference: 7,
+    };
+    let files = known().into_iter().map(|sample| sample.file());
+    for file in files.chain([vec![]]) {
+        for (premiums_room, differences_room) in [(0, 0), (0, 300), (1_020, 0), (1_020, 300)] {
+            let mut premiums = vec![8; premiums_room];
+            let mut differences = vec![-9; differences_room];
+            let mut numbers = before;
+            // SAFETY: each pointer is good for its count; a null pointer has count 0.
+            let answer = unsafe {
+                raw::retro_guaranteed(
+                    pointer(&file),
+                    file.len(),
+                    stock().into(),
+                    mutable(&mut premiums),
+                    premiums_room,
+                    mutable(&mut differences),
+                    differences_room,
+                    &mut numbers.risks,
+                    &mut numbers.basic,
+                    &mut numbers.excess,
+                    &mut numbers.billed,
+                    &mut numbers.discount,
+                    &mut numbers.guaranteed,
+                    &mut numbers.difference,
+                )
+            };
+            let given = second_rater::guaranteed(&file, &stock(), premiums_room, differences_room);
+            assert_eq!(answer, given.err().unwrap_or(0));
+            if answer != 0 {
+                assert_eq!(numbers, before);
+                assert!(premiums.iter().all(|&byte| byte == 8));
+                assert!(differences.iter().all(|&difference| difference == -9));
+            }
+        }
+    }
+}
+
+#[test]
 fn write_with_null_pointers_where_the_count_is_0() {
     let header = four_risks().header;
     let cases: [(&[u8], &[u32], usize); 6] = [
@@ -516,6 +677,10 @@ fn files_as_long_as_the_address_space_has_room_for() {
             let tabled = calls::table(file, 100, &mut charge, &mut savings);
             let group = calls::read(file, &mut [0; 4], &mut [0; 6]);
             assert_eq!((rated, tabled, group.refused), (answer, answer, answer));
+            let mut numbers = Numbers::default();
+            let (layers, lent) = (stock().into(), &mut numbers.lend());
+            let given = calls::guaranteed(file, layers, &mut premiums, &mut [0; 4], lent);
+            assert_eq!((given, numbers), (answer, Numbers::default()));
         };
         all(file, 2);
         file[..34].copy_from_slice(&four_risks().file());
@@ -534,6 +699,14 @@ fn buffers_as_long_as_the_address_space_has_room_for() {
     let answer = calls::rate(&file, premiums, &mut n, &mut m, &mut q, &mut sum);
     assert_eq!((answer, n, m, q, sum), (0, 4, 6_700_000, 3_300_000, 33_600));
     assert_eq!(premiums[..4], 4_935u32.to_be_bytes());
+
+    let mut more_memory = Sparse::new(1 << 44);
+    let differences = more_memory.numbers();
+    let mut numbers = Numbers::default();
+    let lent = &mut numbers.lend();
+    let answer = calls::guaranteed(&file, stock().into(), premiums, differences, lent);
+    assert_eq!((answer, numbers.difference), (0, -4_220));
+    assert_eq!(differences[..5], [-4_520, -2_210, -1_055, 3_565, 0]);
 
     let sample = four_risks();
     let (counts, claims) = (sample.counts(), sample.claims());

@@ -1,8 +1,8 @@
 //! The generator reaches the corners that the comparison is about, each many times.
 
-use retro_tests::generator::{bits, Random};
+use retro_tests::generator::{bits, Quote, Random};
 use retro_tests::samples::{Sample, AMPLE};
-use retro_tests::second_rater;
+use retro_tests::second_rater::{self, Guaranteed};
 use std::collections::BTreeMap;
 
 /// The corners at which a group lies.
@@ -97,5 +97,124 @@ fn each_corner_is_reached() {
         }
     }
     assert_eq!(reached.len(), 34, "{reached:#?}");
+    assert!(reached.values().all(|&times| times >= 50), "{reached:#?}");
+}
+
+/// The corners at which a schedule lies, and its faults beside those of the file and the buffers.
+fn corners_of_quote(quote: &Quote) -> Vec<&'static str> {
+    let rates = quote.schedule.map(|layer| layer.rate);
+    let widths = quote.schedule.map(|layer| layer.width);
+    let mut corners = Vec::new();
+    let mut at = |corner: &'static str, holds: bool| {
+        if holds {
+            corners.push(corner);
+        }
+    };
+    at("rate 0", rates.contains(&0));
+    at("rate 1,000", rates.contains(&1_000));
+    at("rate 1,001", rates.contains(&1_001));
+    at("rate 4,294,967,295", rates.contains(&u32::MAX));
+    at("width 1", widths[..3].contains(&1));
+    at("width 4,294,967,295", widths[..3].contains(&u32::MAX));
+    at("last width 0", widths[3] == 0);
+    at("last width 4,294,967,295", widths[3] == u32::MAX);
+
+    let above: Vec<usize> = (0..4).filter(|&row| rates[row] > 1_000).collect();
+    let zero: Vec<usize> = (0..3).filter(|&row| widths[row] == 0).collect();
+    let (refused_16, refused_17) = (!above.is_empty(), !zero.is_empty());
+    let risks = match second_rater::rate(&quote.file, AMPLE) {
+        Ok(rated) => rated.risks as usize,
+        Err(question) => {
+            at("12 and 16", question == 12 && refused_16);
+            at("12 and 17", question == 12 && refused_17);
+            return corners;
+        }
+    };
+    let short_premiums = quote.premiums_room < 4 * risks;
+    let short_differences = quote.differences_room < risks;
+    if short_premiums || short_differences {
+        at("premiums alone too short", !short_differences);
+        at("differences alone too short", !short_premiums);
+        at("both too short", short_premiums && short_differences);
+        at("13 and 16", refused_16);
+        at("13 and 17", refused_17);
+        return corners;
+    }
+    at("16 and 17", refused_16 && refused_17);
+    at("first rate alone above 1,000", above == [0]);
+    at("last rate alone above 1,000", above == [3]);
+    at("first width alone 0", !refused_16 && zero == [0]);
+    at("second width alone 0", !refused_16 && zero == [1]);
+    at("third width alone 0", !refused_16 && zero == [2]);
+    if let Ok(given) = second_rater::guaranteed(&quote.file, &quote.schedule, AMPLE, AMPLE) {
+        corners.extend(corners_of_given(quote, &given));
+    }
+    corners
+}
+
+/// The corners at which the layers end, the discount is rounded and the differences lie.
+fn corners_of_given(quote: &Quote, given: &Guaranteed) -> Vec<&'static str> {
+    let premium = u64::from(quote.standard_premium());
+    let mut corners = Vec::new();
+    let mut at = |corner: &'static str, holds: bool| {
+        if holds {
+            corners.push(corner);
+        }
+    };
+    let parts = quote.parts();
+    at("P ends in the first layer", parts[0] == premium);
+    at("P ends in the second layer", parts[1] > 0 && parts[2] == 0);
+    at("P ends in the third layer", parts[2] > 0 && parts[3] == 0);
+    at("P ends in the last layer", parts[3] > 0);
+    let ends = [1, 2, 3].map(|rows| {
+        let widths = quote.schedule[..rows].iter();
+        widths.map(|layer| u64::from(layer.width)).sum::<u64>()
+    });
+    at("P ends with a layer", ends.contains(&premium));
+    at("P ends a dollar before", ends.contains(&(premium + 1)));
+    at("P ends a dollar after", ends.contains(&(premium - 1)));
+    let past = |end: u64| end > u64::from(u32::MAX);
+    at("two widths past 32 bits", parts[1] > 0 && past(ends[1]));
+    at("three widths past 32 bits", parts[2] > 0 && past(ends[2]));
+    let below = |end: u64| past(end) && end % (1 << 32) < premium;
+    at(
+        "an end below P if cut to 32 bits",
+        ends.into_iter().any(below),
+    );
+
+    let thousandths = quote.thousandths();
+    let nearest = |thousandths: u64| (thousandths + 500) / 1_000;
+    assert_eq!(u128::from(nearest(thousandths)), given.discount);
+    at("a discount of 0", given.discount == 0);
+    at("a discount of P", given.discount == premium.into());
+    at("an exact half", thousandths % 1_000 == 500);
+    at("a thousandth below a half", thousandths % 1_000 == 499);
+    at("a thousandth above a half", thousandths % 1_000 == 501);
+    let by_layers = parts.iter().zip(&quote.schedule);
+    let by_layers: u128 = by_layers
+        .map(|(part, layer)| u128::from(nearest(part * u64::from(layer.rate))))
+        .sum();
+    at("less if rounded by layers", by_layers < given.discount);
+    at("more if rounded by layers", by_layers > given.discount);
+
+    let any = |sign: i128| given.differences.iter().any(|one| one.signum() == sign);
+    at("a difference below 0", any(-1));
+    at("a difference of 0", any(0));
+    at("a difference above 0", any(1));
+    at("a sum below 0", given.difference < 0);
+    at("a sum above 0", given.difference > 0);
+    corners
+}
+
+#[test]
+fn each_corner_of_a_schedule_is_reached() {
+    let mut random = Random::new(1_986);
+    let mut reached: BTreeMap<&str, u32> = BTreeMap::new();
+    for _ in 0..40_000 {
+        for corner in corners_of_quote(&random.quote()) {
+            *reached.entry(corner).or_default() += 1;
+        }
+    }
+    assert_eq!(reached.len(), 43, "{reached:#?}");
     assert!(reached.values().all(|&times| times >= 50), "{reached:#?}");
 }

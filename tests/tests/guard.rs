@@ -1,8 +1,9 @@
 //! The unreadable pages do what the comparison relies on: one byte outside a slice ends the
 //! process.
 
-use retro_tests::guard::{page_size, Guarded, Place, PLACES};
+use retro_tests::guard::{page_size, Guarded, Number, Place, PLACES};
 use std::env;
+use std::mem::size_of;
 use std::os::unix::process::ExitStatusExt;
 use std::process::Command;
 
@@ -10,10 +11,10 @@ use std::process::Command;
 const FAULT: &str = "RETRO_GUARD_FAULT";
 const SIGSEGV: i32 = 11;
 
-#[test]
-fn slices_lie_against_the_pages() {
-    let mut memory = Guarded::<u32>::new(5_000);
-    let inside = 20_000usize.next_multiple_of(page_size());
+/// Slices of these numbers begin after the page before them, or end before the page after them.
+fn lie_against_the_pages<T: Number>() {
+    let mut memory = Guarded::<T>::new(5_000);
+    let inside = (5_000 * size_of::<T>()).next_multiple_of(page_size());
     let first = memory.slice(5_000, Place::PageBefore).as_ptr() as usize;
     assert_eq!(first % page_size(), 0);
     for len in [0, 1, 7, 5_000] {
@@ -22,8 +23,16 @@ fn slices_lie_against_the_pages() {
             first
         );
         let after = memory.slice(len, Place::PageAfter);
-        assert_eq!(after.as_ptr() as usize + 4 * len, first + inside);
+        let end = after.as_ptr() as usize + size_of::<T>() * len;
+        assert_eq!(end, first + inside);
     }
+}
+
+#[test]
+fn slices_lie_against_the_pages() {
+    lie_against_the_pages::<u8>();
+    lie_against_the_pages::<u32>();
+    lie_against_the_pages::<i64>();
 }
 
 #[test]

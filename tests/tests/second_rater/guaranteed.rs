@@ -5,31 +5,13 @@ use retro_tests::generator::{
     set, Random, CONVERSION, EDITION, MINIMUM_MARK, RISKS, STANDARD_PREMIUM, TAX,
 };
 use retro_tests::samples::{
-    crossed_marks, four_risks, largest, one_claim_of_one, ten_risks, two_risks_of_ten, Sample,
-    AMPLE,
+    crossed_marks, four_risks, largest, one_claim_of_one, one_risk, schedule, stock, ten_risks,
+    two_risks_of_ten, AMPLE,
 };
 use retro_tests::second_rater::{guaranteed, rate, Guaranteed, Layer};
 
 /// The largest standard premium.
 const LARGEST_PREMIUM: u32 = (1 << 22) - 1;
-
-/// A schedule from its rows of width and rate.
-fn schedule(rows: [(u32, u32); 4]) -> [Layer; 4] {
-    rows.map(|(width, rate)| Layer { width, rate })
-}
-
-/// The 1986 stock schedule of document 001.
-fn stock() -> [Layer; 4] {
-    schedule([(5_000, 0), (95_000, 109), (400_000, 126), (0, 144)])
-}
-
-/// A group of one risk with this P. Its marks are entry ratios, so P changes no
-/// premium: M is 0, K is 1, and 1 dollar is billed.
-fn one_risk(standard_premium: u32) -> Sample {
-    let mut sample = one_claim_of_one(1);
-    sample.header.standard_premium = standard_premium;
-    sample
-}
 
 /// The discount on P. Guaranteed cost is the rest of P.
 fn discount_on(standard_premium: u32, schedule: &[Layer; 4]) -> u128 {
