@@ -32,6 +32,14 @@ static_assert(offsetof(retro_group, mark_kind) == 28, "eighth");
 static_assert(offsetof(retro_group, maximum_mark) == 32, "ninth");
 static_assert(offsetof(retro_group, minimum_mark) == 36, "tenth");
 
+static_assert(sizeof(retro_layer) == 8, "two numbers of 32 bits");
+static_assert(offsetof(retro_layer, width) == 0, "first");
+static_assert(offsetof(retro_layer, rate) == 4, "second");
+
+static_assert(sizeof(retro_schedule) == 32, "four layers");
+static_assert(offsetof(retro_schedule, layers) == 0, "first");
+static_assert(sizeof(((retro_schedule *)0)->layers) == 32, "four, one after another");
+
 /* The calls as pointers of exactly these types. */
 static uint32_t (*const rate)(const uint8_t *, size_t, uint8_t *, size_t, uint32_t *, uint64_t *,
                               uint64_t *, uint64_t *) = retro_rate;
@@ -41,14 +49,19 @@ static retro_group (*const take)(const uint8_t *, size_t, uint8_t *, size_t, uin
                                  size_t) = retro_read;
 static uint32_t (*const make)(retro_header, const uint8_t *, size_t, const uint32_t *, size_t,
                               uint8_t *, size_t, size_t *) = retro_write;
+static uint32_t (*const beside)(const uint8_t *, size_t, retro_schedule, uint8_t *, size_t,
+                                int64_t *, size_t, uint32_t *, uint64_t *, uint64_t *, uint64_t *,
+                                uint32_t *, uint32_t *, int64_t *) = retro_guaranteed;
 
 /* Each call is given nothing, with null pointers where the count is 0. */
 int main(void)
 {
-    uint32_t risks = 0, charge = 0, savings = 0;
+    uint32_t risks = 0, charge = 0, savings = 0, discount = 0, guaranteed = 0;
     uint64_t basic = 0, excess = 0, billed = 0;
+    int64_t difference = 0;
     size_t length = 0;
     retro_header header = {0, 1, 0, 1000, 10000, 0, 0, 0};
+    retro_schedule schedule = {{{5000, 0}, {95000, 109}, {400000, 126}, {0, 144}}};
     if (rate(NULL, 0, NULL, 0, &risks, &basic, &excess, &billed) != 1) {
         return 1;
     }
@@ -61,6 +74,10 @@ int main(void)
     }
     if (make(header, NULL, 0, NULL, 0, NULL, 0, &length) != 7) {
         return 4;
+    }
+    if (beside(NULL, 0, schedule, NULL, 0, NULL, 0, &risks, &basic, &excess, &billed, &discount,
+               &guaranteed, &difference) != 1) {
+        return 5;
     }
     return 0;
 }

@@ -1,7 +1,7 @@
 #!/usr/bin/env bash
 # Builds the programs in C against target/staticlib/libretro_c.a and runs them: layout, what retro.h
-# promises; round_trip, Write and Read of the four-risk group; billing, which is held to
-# tests/c/*.expected, whose figures are the second rater's. Any failure exits non-zero.
+# promises; round_trip, Write and Read of the four-risk group; billing and guaranteed, which are held
+# to tests/c/*.expected, whose figures are the second rater's. Any failure exits non-zero.
 set -euo pipefail
 export LC_ALL=C
 cd "$(dirname "$0")/../.."
@@ -19,33 +19,37 @@ gcc -std=c11 "${strict[@]}" tests/c/layout.c "$archive" -o "$built/layout"
 g++ -std=c++11 -x c++ "${strict[@]}" tests/c/layout.c -x none "$archive" -o "$built/layout++"
 gcc -std=c11 -O2 "${strict[@]}" tests/c/round_trip.c "$archive" -o "$built/round_trip"
 gcc -std=c11 -O2 "${strict[@]}" tests/c/billing.c "$archive" -o "$built/billing"
+gcc -std=c11 -O2 "${strict[@]}" tests/c/guaranteed.c "$archive" -o "$built/guaranteed"
 
 for language in layout layout++; do
     "$built/$language" || { echo "$language: call $? has another answer" >&2; exit 1; }
 done
-echo "layout: 4 calls linked and run as C11 and as C++11: as expected"
+echo "layout: 5 calls linked and run as C11 and as C++11: as expected"
 "$built/round_trip"
 
-# ran STATUS ARGUMENT..: runs the program, which must end with that status.
+# ran STATUS PROGRAM ARGUMENT..: runs the program, which must end with that status.
 ran() {
-    local expected=$1 status=0
-    shift
-    "$built/billing" "$@" >"$built/printed" 2>"$built/said" || status=$?
+    local expected=$1 program=$2 status=0
+    shift 2
+    "$built/$program" "$@" >"$built/printed" 2>"$built/said" || status=$?
     [ "$status" -eq "$expected" ] || {
-        echo "billing $*: exit status $status, expected $expected" >&2
+        echo "$program $*: exit status $status, expected $expected" >&2
         cat "$built/said" >&2
         exit 1
     }
 }
 
-# An invoice: the lines of tests/c/NAME.expected, and nothing on standard error.
-invoice() {
-    ran 0 "examples/$1.group"
-    diff "tests/c/$1.expected" "$built/printed"
+# lines NAME PROGRAM ARGUMENT..: the lines of tests/c/NAME.expected, and nothing on standard error.
+lines() {
+    local name=$1
+    shift
+    ran 0 "$@"
+    diff "tests/c/$name.expected" "$built/printed"
     diff /dev/null "$built/said"
 }
 
-# A failure: the message of tests/c/NAME.expected on standard error, and no invoice.
+# failure NAME STATUS PROGRAM ARGUMENT..: the message of tests/c/NAME.expected on standard error, and
+# no lines.
 failure() {
     local name=$1
     shift
@@ -54,24 +58,55 @@ failure() {
     diff /dev/null "$built/printed"
 }
 
-invoice four-risks
-invoice entry-ratio
-failure missing 2 examples/no-such-file.group
-failure folder 2 examples
-failure usage 3
-failure usage 3 examples/four-risks.group examples/no-limit.group
+# unprinted PROGRAM: lines that cannot be printed.
+unprinted() {
+    local status=0
+    "$built/$1" examples/four-risks.group >/dev/full 2>"$built/said" || status=$?
+    [ "$status" -eq 4 ]
+}
+
+lines four-risks billing examples/four-risks.group
+lines entry-ratio billing examples/entry-ratio.group
+failure missing 2 billing examples/no-such-file.group
+failure folder 2 billing examples
+failure usage 3 billing
+failure usage 3 billing examples/four-risks.group examples/no-limit.group
 
 # Each refused example, with its number and question, as tests/c/refused.expected has them.
 for k in 01 02 03 04 05 06 07 08 09 10 11 12; do
-    ran 1 "examples/refused-$k.group"
+    ran 1 billing "examples/refused-$k.group"
     diff /dev/null "$built/printed"
     cat "$built/said"
 done >"$built/refused"
 diff tests/c/refused.expected "$built/refused"
-
-# An invoice that cannot be printed.
-status=0
-"$built/billing" examples/four-risks.group >/dev/full 2>"$built/said" || status=$?
-[ "$status" -eq 4 ]
+unprinted billing
 
 echo "billing: 2 invoices, 12 refused files, 2 unreadable, 2 wrong usages, 1 unprinted: as expected"
+
+# The stock schedule, with and without its numbers.
+file=examples/four-risks.group
+lines guaranteed guaranteed "$file"
+lines guaranteed guaranteed "$file" 5000 0 95000 109 400000 126 144
+
+# Schedules that are refused: 16 of each rate, 17 of each width, 16 before 17; and a file.
+for schedule in '5000 1001 95000 109 400000 126 144' '5000 0 95000 1001 400000 126 144' \
+    '5000 0 95000 109 400000 1001 144' '5000 0 95000 109 400000 126 1001' \
+    '0 0 95000 109 400000 126 144' '5000 0 0 109 400000 126 144' '5000 0 95000 109 0 126 144' \
+    '0 0 95000 109 400000 126 4294967295'; do
+    read -r -a numbers <<<"$schedule"
+    ran 1 guaranteed "$file" "${numbers[@]}"
+    diff /dev/null "$built/printed"
+    cat "$built/said"
+done >"$built/refused"
+ran 1 guaranteed examples/refused-12.group 0 0 95000 109 400000 126 1001
+cat "$built/said" >>"$built/refused"
+diff tests/c/guaranteed-refused.expected "$built/refused"
+
+failure guaranteed-usage 3 guaranteed
+failure guaranteed-usage 3 guaranteed "$file" 5000 0 95000 109 400000 126
+failure guaranteed-usage 3 guaranteed "$file" 5000 0 95000 109 400000 12.6 144
+failure guaranteed-usage 3 guaranteed "$file" 5000 0 95000 109 4294967296 126 144
+failure guaranteed-missing 2 guaranteed examples/no-such-file.group
+unprinted guaranteed
+
+echo "guaranteed: 2 quotes, 9 refused, 1 unreadable, 4 wrong usages, 1 unprinted: as expected"
