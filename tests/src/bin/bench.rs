@@ -6,8 +6,9 @@
 //! same buffers, which are not cleared between runs. The runs of the calls take turns. A run is as
 //! many calls as take about a millisecond, and its time is divided by their number.
 
+use retro_tests::calls::Numbers;
 use retro_tests::generator::Random;
-use retro_tests::samples::Sample;
+use retro_tests::samples::{stock, Sample};
 use retro_tests::second_rater::{self, Header, LARGEST_FILE, MOST_CLAIMS_PER_RISK, MOST_RISKS};
 use retro_tests::{calls, straightforward};
 use std::hint::black_box;
@@ -26,9 +27,12 @@ enum Measured {
     Table,
     Read,
     Write,
+    Guaranteed16,
+    Guaranteed255,
+    GuaranteedSecondRater,
 }
 
-const ALL: [Measured; 7] = [
+const ALL: [Measured; 10] = [
     Measured::Rate16,
     Measured::Rate255,
     Measured::Straightforward,
@@ -36,6 +40,9 @@ const ALL: [Measured; 7] = [
     Measured::Table,
     Measured::Read,
     Measured::Write,
+    Measured::Guaranteed16,
+    Measured::Guaranteed255,
+    Measured::GuaranteedSecondRater,
 ];
 
 impl Measured {
@@ -48,6 +55,9 @@ impl Measured {
             Measured::Table => "Table, 255 risks",
             Measured::Read => "Read, 255 risks",
             Measured::Write => "Write, 255 risks",
+            Measured::Guaranteed16 => "Guaranteed, 16 risks",
+            Measured::Guaranteed255 => "Guaranteed, 255 risks",
+            Measured::GuaranteedSecondRater => "second rater's Guaranteed, 255 risks",
         }
     }
 }
@@ -60,6 +70,7 @@ struct Desk {
     counts: Vec<u8>,
     claims: Vec<u32>,
     premiums: Vec<u8>,
+    differences: Vec<i64>,
     file: Vec<u8>,
 }
 
@@ -73,6 +84,7 @@ impl Desk {
             counts: largest.counts(),
             claims: largest.claims(),
             premiums: vec![0; 4 * MOST_RISKS],
+            differences: vec![0; MOST_RISKS],
             file: vec![0; LARGEST_FILE],
         }
     }
@@ -80,7 +92,7 @@ impl Desk {
     /// The length of the file that is read or written.
     fn bytes(&self, measured: Measured) -> usize {
         match measured {
-            Measured::Rate16 => self.small.len(),
+            Measured::Rate16 | Measured::Guaranteed16 => self.small.len(),
             _ => self.largest.len(),
         }
     }
@@ -119,6 +131,18 @@ impl Desk {
                 black_box(length);
                 answer == 0
             }
+            Measured::Guaranteed16 => {
+                guaranteed(&self.small, &mut self.premiums, &mut self.differences)
+            }
+            Measured::Guaranteed255 => {
+                guaranteed(&self.largest, &mut self.premiums, &mut self.differences)
+            }
+            Measured::GuaranteedSecondRater => {
+                let (file, schedule) = (black_box(&self.largest), black_box(stock()));
+                let rooms = (self.premiums.len(), self.differences.len());
+                let given = second_rater::guaranteed(file, &schedule, rooms.0, rooms.1);
+                black_box(given).is_ok()
+            }
         };
         assert!(accepted);
     }
@@ -145,6 +169,20 @@ fn rate(file: &[u8], premiums: &mut [u8]) -> bool {
         &mut billed,
     );
     black_box((risks, basic, excess, billed));
+    answer == 0
+}
+
+/// Guaranteed under the stock schedule by the exported call.
+fn guaranteed(file: &[u8], premiums: &mut [u8], differences: &mut [i64]) -> bool {
+    let mut numbers = Numbers::default();
+    let answer = calls::guaranteed(
+        black_box(file),
+        black_box(stock()).into(),
+        black_box(premiums),
+        black_box(differences),
+        &mut numbers.lend(),
+    );
+    black_box(numbers);
     answer == 0
 }
 
@@ -214,5 +252,17 @@ fn main() {
     println!(
         "| Rate of 255 risks to Rate of 16 | {:.2} | below 17 |",
         median(Measured::Rate255) / median(Measured::Rate16)
+    );
+    println!(
+        "| Guaranteed to the second rater's, 255 risks | {:.4} | |",
+        median(Measured::Guaranteed255) / median(Measured::GuaranteedSecondRater)
+    );
+    println!(
+        "| Guaranteed to Rate, 255 risks | {:.2} | |",
+        median(Measured::Guaranteed255) / median(Measured::Rate255)
+    );
+    println!(
+        "| Guaranteed of 255 risks to Guaranteed of 16 | {:.2} | |",
+        median(Measured::Guaranteed255) / median(Measured::Guaranteed16)
     );
 }

@@ -7,8 +7,10 @@
 //! program target/bin/retro it is the least limit, in steps of 4 KiB, under which it rates the
 //! file.
 
+use retro_tests::calls::{self, Numbers};
 use retro_tests::guard::{Guarded, Place};
-use retro_tests::{calls, examples, program, second_rater};
+use retro_tests::samples::stock;
+use retro_tests::{examples, program, second_rater};
 use std::ffi::{c_int, c_void};
 use std::fs::{self, File};
 use std::process::Command;
@@ -44,7 +46,10 @@ struct Task {
     counts: Vec<u8>,
     claims: Vec<u32>,
     header: calls::Header,
+    schedule: calls::Schedule,
     premiums: Vec<u8>,
+    differences: Vec<i64>,
+    numbers: Numbers,
     written: Vec<u8>,
     answer: u32,
     /// The address of a local variable beside the call.
@@ -64,6 +69,16 @@ fn rate(task: &mut Task) {
         &mut basic,
         &mut excess,
         &mut billed,
+    );
+}
+
+fn guaranteed(task: &mut Task) {
+    task.answer = calls::guaranteed(
+        &task.file,
+        task.schedule,
+        &mut task.premiums,
+        &mut task.differences,
+        &mut task.numbers.lend(),
     );
 }
 
@@ -151,7 +166,10 @@ fn main() {
         counts: group.counts,
         claims: group.claims,
         header: group.header.into(),
+        schedule: stock().into(),
         premiums: vec![0; 1_020],
+        differences: vec![0; 255],
+        numbers: Numbers::default(),
         written: vec![0; second_rater::LARGEST_FILE],
         answer: 0,
         place: 0,
@@ -164,6 +182,7 @@ fn main() {
         ("Table", table),
         ("Read", read),
         ("Write", write),
+        ("Guaranteed", guaranteed),
     ] {
         println!("| {name} | {} bytes |", used(&mut task, call));
     }
