@@ -8,7 +8,7 @@ use lib.ListN.{getD}
 use Rattle.plan.specs.Discount.{discountSum, discount}
 use Rattle.plan.proofs.Discounts.{sum-most, discount-quotient}
 use Rattle.discount.specs.Schedules.{noLayer, layersOf, Discountable}
-use Rattle.discount.specs.declared.Layer.{Layer}
+use Rattle.discount.specs.declared.schedule.Layer.{Layer}
 use Rattle.discount.proofs.Rows.{from, layer-taken}
 
 -- of the rows, i are passed, and `remains` of the premium is to be cut

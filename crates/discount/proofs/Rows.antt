@@ -11,7 +11,7 @@ use Rattle.plan.specs.Discount as plan
 use Rattle.plan.specs.Discount.{discountSum, mostRate, ratesPass, widthsPass}
 use Rattle.plan.proofs.Discounts as discounts
 use Rattle.discount.specs.Schedules.{noLayer, layerAt, layersOf}
-use Rattle.discount.specs.declared.Layer.{Layer}
+use Rattle.discount.specs.declared.schedule.Layer.{Layer}
 
 module _ (rows : List Layer) where
   -- the layers from row i on

@@ -7,7 +7,7 @@ use lib.ListN.{getD}
 use Rattle.plan.specs.Header.{standardPremiumField}
 use Rattle.plan.specs.Discount as plan
 use Rattle.plan.specs.Discount.{ratesPass}
-use Rattle.discount.specs.declared.Layer.{Layer}
+use Rattle.discount.specs.declared.schedule.Layer.{Layer}
 
 -- past the last row
 abbrev pub noLayer : Layer

@@ -1,5 +1,8 @@
 // A group's values as the calls hand them to each other: the header values, what questions come to, and the losses. What each
 // means in document 01 is in specs/; nothing here knows how they lie in a file.
+ghost use mathlib.Core.Path.{_≡_};
+ghost use Rattle.plan.specs.Questions.{orElse};
+ghost use Rattle.group.specs.Values.{verdictIs};
 
 // Sizes by name, as plan's Sizes has them: the most risks of a group, the most claims of a risk, the largest mark in
 // thousandths, and the bytes of the largest file.
@@ -28,6 +31,16 @@ pub struct Header {
 pub enum Verdict {
     Passed,
     Failed(u32),
+}
+
+// What questions come to that are asked one list after another: the No of the first, else what the second comes to.
+pub fn first_of(first: Verdict, second: Verdict) -> Verdict
+    ensures { λ r. ⌜ verdictIs r ≡ orElse (verdictIs first) (verdictIs second) ⌝ }
+{
+    match first {
+        Verdict::Failed(k) => Verdict::Failed(k),
+        Verdict::Passed => second,
+    }
 }
 
 // The losses of a group: n, SL and SA, and L and A of each risk in the first n entries.

@@ -2,11 +2,12 @@
 -- group and guaranteed cost is by its own standard premium; so the call says what document 02 says, and what holds of every call
 -- that is not refused holds of it. Assumes nothing.
 use mathlib.Core.Path.{_≡_, refl, sym, ap, _∙_, subst}
-use mathlib.Core.Bool.{Bool}
-use mathlib.Core.List.{List, [], _∷_}
+use mathlib.Core.Bool.{true}
+use mathlib.Core.List.{List, [], _∷_, _++_}
 use Prim.Native.Nat.{ℕ, _*_, _-_, _≤_}
 use native.Mathlib.Omega.{arith}
-use borrow.Author.Tests.{le-leb}
+use borrow.Author.Tests.{leb-true}
+use lib.Dec.{leb}
 use lib.IntN.{ℤ, pos}
 use lib.ListN.{length}
 use Rattle.plan.specs.Arithmetic.{sum, sumZ}
@@ -15,13 +16,13 @@ use Rattle.plan.specs.Header.{headerOf, riskCount}
 use Rattle.plan.specs.Losses.{lossesIn}
 use Rattle.plan.specs.Premium as plan
 use Rattle.plan.specs.Premium.{termsOf, billedPremiums}
-use Rattle.plan.specs.Questions.{Verdict, passed, failed, firstNo, orElse, ratingQuestions, question13}
+use Rattle.plan.specs.Questions.{Verdict, passed, failed, firstNo, orElse, ratingQuestions, rateEnough, question13}
 use Rattle.plan.specs.Calls.{Answer, given, answer, giving, filled, bufferAfter, ratedOf, premiumBytes}
-use Rattle.plan.specs.Discount.{Layer, discount, guaranteedCost}
+use Rattle.plan.specs.Discount.{Layer, discount, guaranteedCost, ratesPass}
 use Rattle.plan.specs.Comparison.{differencesOf, scheduleQuestions, compareEnough, compareQuestions, comparisonOf, compare, Beside}
 use Rattle.plan.specs.Comparison as call
-use Rattle.plan.proofs.Tests.{and-yes}
-use Rattle.plan.proofs.Questions.{after-gate, answered}
+use Rattle.plan.proofs.Tests.{both}
+use Rattle.plan.proofs.Questions.{after-gate, answered, or-passed, yes-to}
 use Rattle.plan.proofs.Comparisons.{figuresOf, beside}
 use Rattle.group.specs.Values.{LossesAre}
 use Rattle.group.specs.declared.GroupLosses.{GroupLosses}
@@ -37,14 +38,17 @@ use Rattle.guaranteed.specs.declared.Compared.the-variants as answers
 -- ---- the verdict, and a refusal
 
 module _ (s : List ℕ) (ls : List Layer) (oldPremiums : List ℕ) (oldDifferences : List ℤ) where
-  -- the gate's No, else that of 13, 16 and 17
-  pub verdict : {v : Verdict} {b : Bool} → firstNo (ratingQuestions s) ≡ v
-      → compareEnough s (length oldPremiums) (length oldDifferences) ≡ b
-      → firstNo (compareQuestions s ls (length oldPremiums) (length oldDifferences))
-      ≡ orElse v (firstNo (question13 b ∷ scheduleQuestions ls))
+  -- what 13, 16 and 17 come to
+  abbrev pub lastVerdict : Verdict
+  lastVerdict =
+      orElse (firstNo (question13 (compareEnough s (length oldPremiums) (length oldDifferences)) ∷ [])) (firstNo (scheduleQuestions ls))
+
+  -- the gate's No, else theirs
+  pub verdict : {v w : Verdict} → firstNo (ratingQuestions s) ≡ v → lastVerdict ≡ w
+      → firstNo (compareQuestions s ls (length oldPremiums) (length oldDifferences)) ≡ orElse v w
   verdict {v} e f =
-      after-gate (ratingQuestions s) (question13 (compareEnough s (length oldPremiums) (length oldDifferences)) ∷ scheduleQuestions ls) e
-      ∙ ap (λ (b : Bool). orElse v (firstNo (question13 b ∷ scheduleQuestions ls))) f
+      let thirteen = question13 (compareEnough s (length oldPremiums) (length oldDifferences)) ∷ [] in
+      after-gate (ratingQuestions s) (thirteen ++ scheduleQuestions ls) e ∙ ap (orElse v) (after-gate thirteen (scheduleQuestions ls) refl ∙ f)
 
   -- a refusal leaves all as it was
   pub refused-says : {k : ℕ} → firstNo (compareQuestions s ls (length oldPremiums) (length oldDifferences)) ≡ failed k
@@ -60,23 +64,38 @@ module _ (s : List ℕ) (ls : List Layer) (oldPremiums : List ℕ) (oldDifferenc
 
 -- ---- what a call says that is not refused
 
--- questions 1 to 12 gave terms, 13 found room, and 16 and 17 passed
+-- questions 1 to 12 gave terms, and 13, 16 and 17 passed
 module _ (s : List ℕ) (ls : List Layer) {t : Terms}
     (gave : balancedIs (balanced.Given t) ≡ answer (firstNo (ratingQuestions s)) (termsOf (headerOf s) (lossesIn s)))
     {g : GroupLosses} (losses : LossesAre (lossesIn s) g) (oldPremiums : List ℕ) (oldDifferences : List ℤ)
-    (room : 4 * t .risks ≤ length oldPremiums) (room-too : t .risks ≤ length oldDifferences)
-    (asked : firstNo (scheduleQuestions ls) ≡ passed) where
+    (asked : lastVerdict s ls oldPremiums oldDifferences ≡ passed) where
   -- all that is given
   abbrev all : call.Comparison
   all = comparisonOf ls (headerOf s) (lossesIn s)
 
   is-given : compare s ls (length oldPremiums) (length oldDifferences) ≡ given all
   unfolding compare
-  is-given =
-      let enough : 4 * riskCount s ≤ length oldPremiums = omega (arith, room, risk-count s gave) in
-      let enough-too : riskCount s ≤ length oldDifferences = omega (arith, room-too, risk-count s gave) in
-      answered all
-      (verdict s ls oldPremiums oldDifferences (passes s gave) (and-yes (le-leb _ _ enough) (le-leb _ _ enough-too)) ∙ asked)
+  is-given = answered all (verdict s ls oldPremiums oldDifferences (passes s gave) asked)
+
+  -- 13 and 16, as what the code needs them for
+  thirteen : compareEnough s (length oldPremiums) (length oldDifferences) ≡ true
+  thirteen =
+      yes-to 13 (question13 (compareEnough s (length oldPremiums) (length oldDifferences)) ∷ []) refl
+      (or-passed _ (firstNo (scheduleQuestions ls)) asked .0)
+
+  enough : (rateEnough s (length oldPremiums) ≡ true) × (leb (riskCount s) (length oldDifferences) ≡ true)
+  enough = both (rateEnough s (length oldPremiums)) (leb (riskCount s) (length oldDifferences)) thirteen
+
+  pub room : 4 * t .risks ≤ length oldPremiums
+  room = omega (arith, leb-true (4 * riskCount s) (length oldPremiums) (enough .0), risk-count s gave)
+
+  pub room-too : t .risks ≤ length oldDifferences
+  room-too = omega (arith, leb-true (riskCount s) (length oldDifferences) (enough .1), risk-count s gave)
+
+  pub rates : ratesPass ls ≡ true
+  rates =
+      yes-to 16 (scheduleQuestions ls) refl
+      (or-passed (firstNo (question13 (compareEnough s (length oldPremiums) (length oldDifferences)) ∷ [])) _ asked .1)
 
   -- what the code gives and leaves
   module _ (c : Comparison) (premiums : List ℕ) (differences : List ℤ)

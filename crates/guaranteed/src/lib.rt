@@ -1,19 +1,28 @@
 // Guaranteed cost beside the retro premium: what Rate gives on a file, the discount of its standard premium by a schedule,
 // guaranteed cost, and what each risk is billed above or below it.
 ghost use mathlib.Core.Path.{_≡_};
-ghost use lib.IntN.{pos, _-ℤ_};
+ghost use mathlib.Core.Bool.{_&&_};
+ghost use mathlib.Core.List.{[], _∷_};
+ghost use Prim.Native.Nat.{_*_};
+ghost use lib.Dec.{leb};
+ghost use lib.IntN.{pos, _+ℤ_, _-ℤ_};
 ghost use lib.ListN.{length};
+ghost use mir.Syntax.{w64};
+ghost use mir.Val.{SFits};
 ghost use Rattle.plan.specs.Arithmetic.{sumZ};
 ghost use Rattle.plan.specs.Calls.{filled};
+ghost use Rattle.plan.specs.Questions.{firstNo, question13};
 ghost use Rattle.plan.specs.Comparison.{differencesOf};
+ghost use Rattle.group.specs.Values.{verdictIs};
 ghost use Rattle.rating.specs.Bills.{billsOf};
 ghost use Rattle.discount.specs.Schedules.{layersOf};
 ghost use Rattle.guaranteed.specs.Comparisons.{Differing, CompareSays, BesideGiven};
-use discount::Schedule;
-use discount::discount_of;
-use discount::schedule_verdict;
+use discount::discounts::discount_of;
+use discount::schedule::Schedule;
+use discount::schedule::schedule_verdict;
 use gates::open_rating;
 use group::Verdict;
+use group::first_of;
 use rating::rates::GroupFigures;
 use rating::rates::put_bills;
 use steps::balance::Balanced;
@@ -42,6 +51,14 @@ fn difference_of(bill: u32, cost: u32) -> i64
     bill as i64 - cost as i64
 }
 
+// A sum of differences and one more.
+fn sum_of(total: i64, difference: i64) -> i64
+    requires { ⌜ SFits w64 (total +ℤ difference) ⌝ }
+    ensures { λ r. ⌜ r ≡ total +ℤ difference ⌝ }
+{
+    total + difference
+}
+
 // Puts what each risk is billed above or below guaranteed cost into a buffer with room; their sum. It asks nothing and stores
 // nothing else.
 fn put_differences(terms: Terms, limiteds: &[u32], cost: u32, out: &mut [i64]) -> i64
@@ -57,10 +74,23 @@ fn put_differences(terms: Terms, limiteds: &[u32], cost: u32, out: &mut [i64]) -
         let bill = bill_at(terms, limiteds, i);
         let difference = difference_of(bill, cost);
         out[i] = difference;
-        total += difference;
+        total = sum_of(total, difference);
         i += 1;
     }
     total
+}
+
+// Question 13 of both buffers: 4 × n bytes of premiums and n differences are enough.
+fn room_verdict(risks: u32, premiums: usize, differences: usize) -> Verdict
+    ensures { λ r. ⌜ verdictIs r ≡ firstNo (question13 (leb (4 * risks) premiums && leb risks differences) ∷ []) ⌝ }
+{
+    if premiums < 4 * risks as usize {
+        return Verdict::Failed(13);
+    }
+    if differences < risks as usize {
+        return Verdict::Failed(13);
+    }
+    Verdict::Passed
 }
 
 // Rates a file of whatever bytes, and sets each bill beside guaranteed cost by a schedule of whatever numbers, into buffers of
@@ -82,13 +112,9 @@ pub fn compare(
     match balanced {
         Balanced::Refused(k) => Compared::Refused(k),
         Balanced::Given(terms) => {
-            if premiums.len() < 4 * terms.risks as usize {
-                return Compared::Refused(13);
-            }
-            if differences.len() < terms.risks as usize {
-                return Compared::Refused(13);
-            }
-            let asked = schedule_verdict(schedule);
+            let room = room_verdict(terms.risks, premiums.len(), differences.len());
+            let of_schedule = schedule_verdict(schedule);
+            let asked = first_of(room, of_schedule);
             match asked {
                 Verdict::Failed(k) => Compared::Refused(k),
                 Verdict::Passed => {

@@ -64,6 +64,11 @@ passed-both [] rest e = (refl, e)
 passed-both (ask k true ∷ gate) rest e = passed-both gate rest e
 passed-both (ask k false ∷ gate) rest e = (e, cc)
 
+-- and what comes to a Yes one after the other comes to a Yes each
+pub or-passed : (v w : Verdict) → orElse v w ≡ passed → (v ≡ passed) × (w ≡ passed)
+or-passed passed w e = (refl, e)
+or-passed (failed k) w e = (e, cc)
+
 -- ---- an answer by its number
 
 -- whether a number is asked

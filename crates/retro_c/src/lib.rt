@@ -9,7 +9,7 @@ ghost use Rattle.plan.specs.Comparison.{BesideAfter};
 ghost use Rattle.discount.specs.Schedules.{layersOf};
 ghost use Rattle.retro_c.specs.Exported.{numbers, RateExported, TableExported, ReadExported, WriteExported};
 ghost use Rattle.retro_c.specs.Exported.{lent, CompareExported};
-use discount::Schedule;
+use discount::schedule::Schedule;
 use group::Header;
 use guaranteed::Compared;
 use guaranteed::compare;

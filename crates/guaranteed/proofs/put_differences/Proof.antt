@@ -67,8 +67,8 @@ is p =
     ∙ p .difference-of .ensures
     ∙ ap (λ (b : ℕ). pos b -ℤ pos (start (head p) .args .cost)) (p .before .bill-at .ensures)
 
-add-total : tie.Need-add-total Inv-loop μ-loop
-add-total c =
+sum-of-requires : tie.Need-sum-of-requires Inv-loop μ-loop
+sum-of-requires c κs =
     let l = head c in
     let e = start l in
     record {
@@ -78,20 +78,21 @@ add-total c =
     }
 
 add-i : tie.Need-add-i Inv-loop μ-loop
-add-i c = omega (arith, c .before .before .loop-test .taken, start (head c) .pre .bounds .few)
+add-i c = let d = c .before in omega (arith, d .before .before .loop-test .taken, start (head d) .pre .bounds .few)
 
 loop-less : tie.Need-loop-less Inv-loop μ-loop
-loop-less c = let t : c .before .before .before .loop .i < _ = c .before .before .loop-test .taken in omega (arith, t)
+loop-less c = omega (arith, c .before .before .before .loop-test .taken)
 
 loop-again : tie.Need-loop-again Inv-loop μ-loop
 loop-again c =
-    let l = head c in
+    let d = c .before in
+    let l = head d in
     let a = start l .args in
     subst
     (λ (z : ℤ). Differencing (a .terms) (a .limiteds .now) (a .cost) (a .out .now) (l .loop .i + 1) z
-    (set (l .loop .out) (l .loop .i) (toZ w64 (ofZ w64 (c .difference-of .result)))))
-    (sym (toZ-ofZ (add-total c)))
-    (differencing-more (a .limiteds .now) (a .cost) (a .out .now) (start l .pre) (l .loop .inv) (c .before .before .loop-test .taken) (is c))
+    (set (l .loop .out) (l .loop .i) (toZ w64 (ofZ w64 (d .difference-of .result)))))
+    (sym (toZ-ofZ {w = w64} (record { sfits = c .sum-of .ok }) ∙ c .sum-of .ensures))
+    (differencing-more (a .limiteds .now) (a .cost) (a .out .now) (start l .pre) (l .loop .inv) (d .before .before .loop-test .taken) (is d))
 
 same-length-2 : tie.Need-same-length Inv-loop μ-loop
 same-length-2 c =
@@ -121,7 +122,7 @@ put-differences-spec =
     difference-of-requires
     mul-difference
     slice-set-from-difference
-    add-total
+    sum-of-requires
     add-i
     loop-less
     loop-again

@@ -2,16 +2,17 @@
 use mathlib.Core.Path.{_≡_, refl, sym, ap, _∙_}
 use mathlib.Core.Bool.{Bool, _&&_}
 use mathlib.Core.List.{List}
-use Prim.Native.Nat.{ℕ, _+_, _-_, _≤_}
+use Prim.Native.Nat.{ℕ, _+_, _-_, _≤_, _<_}
 use native.Mathlib.Omega.{arith}
 use borrow.Author.Tests.{le-leb, lt-leb}
-use Rattle.plan.specs.Discount.{ratesPass}
+use lib.ListN.{getD}
+use Rattle.plan.specs.Discount.{mostRate, ratesPass}
 use Rattle.plan.proofs.Tests.{and-first-no}
-use Rattle.discount.specs.Schedules.{layersOf}
-use Rattle.discount.specs.declared.Layer.{Layer}
+use Rattle.discount.specs.Schedules.{noLayer, layersOf}
+use Rattle.discount.specs.declared.schedule.Layer.{Layer}
 use Rattle.discount.proofs.Rows.{from, rate-asked}
-use Rattle.discount.proofs.rates_pass.Statement.{statement}
-use Rattle.discount.proofs.rates_pass.Tie as tie
+use Rattle.discount.proofs.schedule.rates_pass.Statement.{statement}
+use Rattle.discount.proofs.schedule.rates_pass.Tie as tie
 
 abbrev Inv-loop : tie.InvT-loop
 Inv-loop layers i₀ i = (i ≤ 4) × (ratesPass (layersOf layers) ≡ ratesPass (from layers i))
@@ -27,6 +28,10 @@ head r = r .before .before .before
 abbrev rows : tie.At-loop Inv-loop μ-loop → List Layer
 rows l = l .before .args .t1
 
+-- the row is one that is asked
+asked-of : (r : tie.After-struct-known Inv-loop μ-loop) → head r .loop .i < 4
+asked-of r = omega (arith, r .before .before .loop-test .taken)
+
 -- ---- the needs
 
 loop-holds : tie.Need-loop-holds Inv-loop μ-loop
@@ -41,7 +46,9 @@ array-copy-out-layer c = omega arith
 returns : tie.Need-returns Inv-loop μ-loop
 returns c =
     let l = head (c .before) in
-    sym (l .loop .inv .1 ∙ rate-asked (rows l) (l .loop .i) (c .before .before .before .loop-test .taken) ∙ and-first-no _ (lt-leb _ _ (c .if1 .taken)))
+    let i = l .loop .i in
+    let no : mostRate < getD (rows l) i noLayer .rate = omega (arith, c .if1 .taken) in
+    sym (l .loop .inv .1 ∙ rate-asked (rows l) i (asked-of (c .before)) ∙ and-first-no _ (lt-leb _ _ no))
 
 add-i : tie.Need-add-i Inv-loop μ-loop
 add-i c = omega arith
@@ -52,11 +59,12 @@ loop-less c = omega arith
 loop-again : tie.Need-loop-again Inv-loop μ-loop
 loop-again c =
     let l = head (c .before) in
-    let i = l .loop .i in (
+    let i = l .loop .i in
+    let yes : getD (rows l) i noLayer .rate ≤ mostRate = omega (arith, c .if1 .left) in (
       omega arith,
       l .loop .inv .1
-          ∙ rate-asked (rows l) i (c .before .before .before .loop-test .taken)
-          ∙ ap (λ (b : Bool). b && ratesPass (from (rows l) (i + 1))) (le-leb _ _ (c .if1 .left)),
+          ∙ rate-asked (rows l) i (asked-of (c .before))
+          ∙ ap (λ (b : Bool). b && ratesPass (from (rows l) (i + 1))) (le-leb _ _ yes),
     )
 
 returns-2 : tie.Need-returns-2 Inv-loop μ-loop

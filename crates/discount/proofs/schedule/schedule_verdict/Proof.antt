@@ -8,8 +8,8 @@ use Rattle.plan.specs.Discount.{Layer, ratesPass, widthsPass}
 use Rattle.plan.specs.Comparison.{question17}
 use Rattle.plan.proofs.Questions.{goes-on, stops}
 use Rattle.discount.specs.Schedules.{layersOf}
-use Rattle.discount.proofs.schedule_verdict.Statement.{statement}
-use Rattle.discount.proofs.schedule_verdict.Tie as tie
+use Rattle.discount.proofs.schedule.schedule_verdict.Statement.{statement}
+use Rattle.discount.proofs.schedule.schedule_verdict.Tie as tie
 
 -- ---- the places of the code
 

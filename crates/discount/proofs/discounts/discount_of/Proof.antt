@@ -7,10 +7,10 @@ use native.Mathlib.Omega.{arith}
 use borrow.Author.Needs.{needs}
 use lib.ListN.{getD}
 use Rattle.discount.specs.Schedules.{noLayer}
-use Rattle.discount.specs.declared.Layer.{Layer}
+use Rattle.discount.specs.declared.schedule.Layer.{Layer}
 use Rattle.discount.proofs.Cutting.{Cutting, cutting-starts, part-most, cutting-more, all-most, discounted}
-use Rattle.discount.proofs.discount_of.Statement.{statement}
-use Rattle.discount.proofs.discount_of.Tie as tie
+use Rattle.discount.proofs.discounts.discount_of.Statement.{statement}
+use Rattle.discount.proofs.discounts.discount_of.Tie as tie
 
 abbrev Inv-loop : tie.InvT-loop
 Inv-loop premium layers remains₀ sum₀ i₀ remains sum i = Cutting layers premium i remains sum
@@ -34,6 +34,13 @@ turn p = p .before .before .before
 abbrev after : tie.After-struct-known2 Inv-loop μ-loop → tie.After-loop Inv-loop μ-loop
 after p = p .before .before
 
+-- a row before the last is cut, and the last is reached
+before-last : (t : tie.In-loop Inv-loop μ-loop) → t .before .loop .i < 3
+before-last t = omega (arith, t .loop-test .taken)
+
+reached : (a : tie.After-loop Inv-loop μ-loop) → 3 ≤ a .before .loop .i
+reached a = omega (arith, a .loop-test .left)
+
 -- ---- the needs
 
 loop-holds : tie.Need-loop-holds Inv-loop μ-loop
@@ -53,7 +60,7 @@ most : (p : tie.After-struct-known Inv-loop μ-loop)
     l .loop .sum + p .before .part-of .result * getD (rows l) (l .loop .i) noLayer .rate ≤ 4194303000
 most p =
     let t = turn p in
-    part-most (t .before .loop .inv) (t .loop-test .taken) (p .before .part-of .ensures) (start (t .before) .pre)
+    part-most (t .before .loop .inv) (before-last t) (p .before .part-of .ensures) (start (t .before) .pre)
 
 mul-sum : tie.Need-mul-sum Inv-loop μ-loop
 mul-sum c = omega (arith, most c)
@@ -71,7 +78,7 @@ loop-less : tie.Need-loop-less Inv-loop μ-loop
 loop-less c = omega arith
 
 loop-again : tie.Need-loop-again Inv-loop μ-loop
-loop-again c = let t = turn c in cutting-more (t .before .loop .inv) (t .loop-test .taken) (c .before .part-of .ensures)
+loop-again c = let t = turn c in cutting-more (t .before .loop .inv) (before-last t) (c .before .part-of .ensures)
 
 array-copy-out-last : tie.Need-array-copy-out-last Inv-loop μ-loop
 array-copy-out-last c = search needs
@@ -79,7 +86,7 @@ array-copy-out-last c = search needs
 whole : (p : tie.After-struct-known2 Inv-loop μ-loop)
     → let l = after p .before in
     l .loop .sum + l .loop .remains * getD (rows l) 3 noLayer .rate ≤ 4194303000
-whole p = let a = after p in all-most (a .before .loop .inv) (a .loop-test .left) (start (a .before) .pre)
+whole p = let a = after p in all-most (a .before .loop .inv) (reached a) (start (a .before) .pre)
 
 mul-sum-2 : tie.Need-mul-sum-2 Inv-loop μ-loop
 mul-sum-2 c = omega (arith, whole c)
@@ -91,7 +98,7 @@ add-result : tie.Need-add-result Inv-loop μ-loop
 add-result c = omega (arith, whole c)
 
 returns : tie.Need-returns Inv-loop μ-loop
-returns c = let a = after c in discounted (a .before .loop .inv) (a .loop-test .left)
+returns c = let a = after c in discounted (a .before .loop .inv) (reached a)
 
 pub discount-of-spec : {M : Type 1} → statement M
 discount-of-spec =
