@@ -4,15 +4,21 @@
 use mathlib.Core.Path.{_≡_, refl, sym, ap, _∙_, subst}
 use mathlib.Core.Bool.{Bool, true}
 use mathlib.Core.List.{List, [], _∷_, _++_, map}
-use Prim.Native.Nat.{ℕ, _+_, _*_, _≤_}
+use Prim.Native.Nat.{ℕ, _+_, _*_, _^_, _≤_, _<_}
+use native.Mathlib.Nat.{mul-le-mul}
 use native.Mathlib.Omega.{arith}
 use borrow.Author.Tests.{leb-true, le-leb}
-use lib.IntN.{ℤ, pos, _-ℤ_}
+use lib.Dec.{T}
+use lib.IntN.{ℤ, pos, negsuc, natAbs, _-ℤ_}
+use lib.Signed.{_≤ℤ_, _<ℤ_, pos-natAbs}
 use lib.ListN.{length, take, length-map}
-use Rattle.plan.specs.Arithmetic.{sum, sumZ}
+use Rattle.plan.specs.Arithmetic.{sumOf, sum, sumZ}
+use Rattle.plan.specs.Sizes.{mostRisks}
 use Rattle.plan.specs.Header.{headerOf, riskCount}
-use Rattle.plan.specs.Losses.{lossesIn}
-use Rattle.plan.specs.Premium.{billedPremium, billedPremiums}
+use Rattle.plan.specs.Losses.{Losses, lossesIn}
+use Rattle.plan.specs.Basic.{basicPremium}
+use Rattle.plan.specs.Premium.{termsOf, billedPremium, billedPremiums}
+use Rattle.plan.specs.Bounds.{GroupBounds}
 use Rattle.plan.specs.Demand3.{Demand3, numbersIn}
 use Rattle.plan.specs.Questions.{passed, firstNo, ratingQuestions, rateQuestions, rateEnough, question13}
 use Rattle.plan.specs.Calls.{Answer, given, answer, filled, bufferAfter, Rated, ratedOf, rate, premiumBytes}
@@ -20,10 +26,15 @@ use Rattle.plan.specs.Discount.{Layer, discount, guaranteedCost, ratesPa
 use Rattle.plan.specs.Comparison.{differencesOf, compareEnough, scheduleQuestions, compareQuestions}
 use Rattle.plan.specs.Comparison.{Comparison, comparisonOf, compare, Figures, Beside}
 use Rattle.plan.proofs.Tests.{both}
-use Rattle.plan.proofs.Differences.{Differs, of-pos, of-add, of-minus, same}
+use Rattle.plan.proofs.Differences.{Differs, of-pos, of-add, of-minus, same, between}
 use Rattle.plan.proofs.Filled.{first-filled}
 use Rattle.plan.proofs.Losses.{length-losses}
 use Rattle.plan.proofs.Questions.{numbers, passed-both, given-passed, after-gate, answered, goes-on, yes-to}
+use Rattle.plan.proofs.Questions.{RatingSound, rating-sound}
+use Rattle.plan.proofs.Sums.{sum-map, sum-const, sum-le}
+use Rattle.plan.proofs.FileSizes.{group-bounds}
+use Rattle.plan.proofs.GroupSizes.{terms-bounds}
+use Rattle.plan.proofs.Bills as bills
 use Rattle.plan.proofs.Discounts as discounts
 use Rattle.plan.proofs.Demand3.{demand3}
 
@@ -142,3 +153,58 @@ module _ (s : List ℕ) (ls : List Layer) (oldPremiums : List ℕ) (oldDifferenc
                 premiums = (ap (λ (x : Comparison). x .rated .premiums) (sym all) ∙ sym numbers) i;
               }));
         }
+
+-- ---- sizes, of a call that is not refused
+
+module _ (s : List ℕ) (ls : List Layer) (premiumsRoom differencesRoom : ℕ) (c : Comparison)
+    (gave : compare s ls premiumsRoom differencesRoom ≡ given c) where
+  sound : RatingSound s
+  sound =
+      rating-sound s
+      (passed-both (ratingQuestions s) (question13 (compareEnough s premiumsRoom differencesRoom) ∷ scheduleQuestions ls)
+      (asked s ls premiumsRoom differencesRoom c gave) .0)
+
+  bounds : GroupBounds (headerOf s) (lossesIn s)
+  bounds = group-bounds s (sound .losses .file)
+
+  cost-most : guaranteedCost ls (headerOf s .standardPremium) ≤ 4194303
+  cost-most =
+      omega (
+        arith,
+        discounts.less-discount ls (rates s ls premiumsRoom differencesRoom c gave) (headerOf s .standardPremium),
+        bounds .premium,
+      )
+
+  bill-lt : (r : Losses) → billedPremium (headerOf s) (lossesIn s) r < 2 ^ 31
+  bill-lt r =
+      bills.bill-lt (termsOf (headerOf s) (lossesIn s)) (terms-bounds (headerOf s) (lossesIn s) bounds (sound .balance))
+      (natAbs (basicPremium (headerOf s) (lossesIn s)))
+      (pos-natAbs (basicPremium (headerOf s) (lossesIn s)) (subst T (sym (sound .balance .not-negative)) tt)) (r .limited)
+
+  -- each difference is from −4,194,303 to below 2 ^ 31
+  pub each-between : (r : Losses)
+      → let z = pos (billedPremium (headerOf s) (lossesIn s) r) -ℤ pos (guaranteedCost ls (headerOf s .standardPremium)) in
+      (negsuc 4194302 ≤ℤ z) × (z <ℤ pos 2147483648)
+  each-between r =
+      let b = billedPremium (headerOf s) (lossesIn s) r in
+      let g = guaranteedCost ls (headerOf s .standardPremium) in
+      between (pos b -ℤ pos g) (of-minus (pos b) (pos g) (of-pos b) (of-pos g)) (omega (arith, bill-lt r)) (omega (arith, cost-most))
+
+  -- and their sum from −1,069,547,265 to below 547,608,330,240
+  pub sum-between : (negsuc 1069547264 ≤ℤ c .difference) × (c .difference <ℤ pos 547608330240)
+  unfolding comparisonOf
+  sum-between =
+      let h = headerOf s in
+      let rs = lossesIn s in
+      let g = guaranteedCost ls (h .standardPremium) in
+      let ps : List ℕ = billedPremiums h rs in
+      let n : length ps ≡ length rs = length-map rs (billedPremium h rs) in
+      let most : sum ps ≤ length rs * 2147483647 =
+      subst (λ (x : ℕ). x ≤ length rs * 2147483647) (sym (sum-map (λ x. x) (billedPremium h rs) rs))
+      (subst (λ (x : ℕ). sumOf (billedPremium h rs) rs ≤ x) (sum-const 2147483647 rs)
+      (sum-le (billedPremium h rs) (λ r. 2147483647) (λ r. omega (arith, bill-lt r)) rs)) in
+      let taken : length ps * g ≤ mostRisks * 4194303 = mul-le-mul (subst (λ (k : ℕ). k ≤ mostRisks) (sym n) (bounds .risks)) cost-most in
+      let z = sumZ (λ z. z) (differencesOf g ps) in
+      let d : (negsuc 1069547264 ≤ℤ z) × (z <ℤ pos 547608330240) =
+      between z (added g ps) (omega (arith, most, bounds .risks)) (omega (arith, taken)) in
+      subst (λ (x : Comparison). (negsuc 1069547264 ≤ℤ x .difference) × (x .difference <ℤ pos 547608330240)) (is s ls premiumsRoom differencesRoom c gave) d

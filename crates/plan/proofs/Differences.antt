@@ -7,8 +7,8 @@ use mathlib.Core.List.{List, [], _∷_}
 use Prim.Native.Nat.{ℕ, zero, suc, _+_, _*_, _-_, _≤_, _<_}
 use native.Mathlib.Omega.{arith}
 use lib.IntN.{ℤ, pos, negsuc, negℤ, _+ℤ_, _-ℤ_, _*ℤ_, subℕ}
-use lib.Signed.{_≤ℤ_, mag}
-use lib.Dec.{T, ltb, ltb→lt, nltb→le, le→leb}
+use lib.Signed.{_≤ℤ_, _<ℤ_, mag, leZ-yes, ltZ-yes}
+use lib.Dec.{T, ltb, ltb→lt, nltb→le, le→leb, lt→ltb}
 use Rattle.plan.specs.Arithmetic.{sumOf, sumZ}
 
 -- what z has above 0, and what it lacks below
@@ -83,3 +83,8 @@ pos-≤ {a} {b} h = record { le = le→leb a b h }
 pub mag-lt : (z : ℤ) {a b m : ℕ} → Differs z a b → a < m → b ≤ m → mag z < m
 mag-lt (pos n) d h k = omega (arith, d .is)
 mag-lt (negsuc n) d h k = omega (arith, d .is)
+
+-- the same in the order of whole numbers: from −(k + 1) to below m
+pub between : (z : ℤ) {a b m k : ℕ} → Differs z a b → a < m → b ≤ suc k → (negsuc k ≤ℤ z) × (z <ℤ pos m)
+between (pos n) {m = m} d h l = (leZ-yes tt, ltZ-yes (lt→ltb n m (omega (arith, d .is))))
+between (negsuc n) {k = k} d h l = (leZ-yes (le→leb n k (omega (arith, d .is))), ltZ-yes tt)
