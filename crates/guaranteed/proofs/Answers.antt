@@ -23,7 +23,7 @@ use Rattle.plan.specs.Comparison.{differencesOf, scheduleQuestions, compareEnou
 use Rattle.plan.specs.Comparison as call
 use Rattle.plan.proofs.Tests.{both}
 use Rattle.plan.proofs.Questions.{after-gate, answered, or-passed, yes-to}
-use Rattle.plan.proofs.Comparisons.{figuresOf, beside}
+use Rattle.plan.proofs.Comparisons.{numbersWith, beside}
 use Rattle.group.specs.Values.{LossesAre}
 use Rattle.group.specs.declared.GroupLosses.{GroupLosses}
 use Rattle.steps.specs.Terms.{balancedIs}
@@ -31,7 +31,7 @@ use Rattle.steps.specs.declared.bill.Terms.{Terms}
 use Rattle.steps.specs.declared.balance.Balanced.the-variants as balanced
 use Rattle.gates.proofs.Given.{passes, terms-are, risk-count, bills-are}
 use Rattle.rating.specs.Bills.{billsOf}
-use Rattle.guaranteed.specs.Comparisons.{numbersOf, figuresIn, CompareSays}
+use Rattle.guaranteed.specs.Comparisons.{partsOf, numbersGiven, CompareSays}
 use Rattle.guaranteed.specs.declared.Comparison.{Comparison}
 use Rattle.guaranteed.specs.declared.Compared.the-variants as answers
 
@@ -57,7 +57,7 @@ module _ (s : List ℕ) (ls : List Layer) (oldPremiums : List ℕ) (oldDifferenc
   refused-says e =
       let a = answered (comparisonOf ls (headerOf s) (lossesIn s)) e in
       record {
-        answer = sym (ap (giving numbersOf) a);
+        answer = sym (ap (giving partsOf) a);
         premiums-after = sym (ap (λ (x : Answer call.Comparison). bufferAfter (λ c. premiumBytes (c .rated)) x oldPremiums) a);
         differences-after = sym (ap (λ (x : Answer call.Comparison). bufferAfter (λ c. c .differences) x oldDifferences) a);
       }
@@ -115,7 +115,7 @@ module _ (s : List ℕ) (ls : List Layer) {t : Terms}
     unfolding comparisonOf
     differences-are = λ i. differencesOf (cost-is i) (bills-are s gave losses i)
 
-    numbers-are : figuresIn c ≡ figuresOf all (t .basic)
+    numbers-are : numbersGiven c ≡ numbersWith all (t .basic)
     unfolding comparisonOf ratedOf
     numbers-are = λ i. record {
       risks = (risks ∙ ap (λ (x : plan.Terms). x .risks) (terms-are s gave)) i;
@@ -152,16 +152,16 @@ module _ (s : List ℕ) (ls : List Layer) {t : Terms}
             guaranteed = numbers-are i .guaranteed;
             difference = numbers-are i .difference;
           }))
-          ∙ sym (ap (giving numbersOf) is-given);
+          ∙ sym (ap (giving partsOf) is-given);
       premiums-after =
           left ∙ sym (ap (λ (x : Answer call.Comparison). bufferAfter (λ c. premiumBytes (c .rated)) x oldPremiums) is-given);
       differences-after =
           left-too ∙ sym (ap (λ (x : Answer call.Comparison). bufferAfter (λ c. c .differences) x oldDifferences) is-given);
     }
 
-    pub beside-given : Beside s (figuresIn c) premiums differences
+    pub beside-given : Beside s (numbersGiven c) premiums differences
     beside-given =
-        subst (λ (u : List ℤ). Beside s (figuresIn c) premiums u) (sym left-too)
-        (subst (λ (p : List ℕ). Beside s (figuresIn c) p (filled (all .differences) oldDifferences)) (sym left)
-        (subst (λ (f : call.Figures). Beside s f (filled (premiumBytes (all .rated)) oldPremiums) (filled (all .differences) oldDifferences))
+        subst (λ (u : List ℤ). Beside s (numbersGiven c) premiums u) (sym left-too)
+        (subst (λ (p : List ℕ). Beside s (numbersGiven c) p (filled (all .differences) oldDifferences)) (sym left)
+        (subst (λ (f : call.NumbersGiven). Beside s f (filled (premiumBytes (all .rated)) oldPremiums) (filled (all .differences) oldDifferences))
         (sym numbers-are) (beside s ls oldPremiums oldDifferences all is-given (t .basic) basic-is)))

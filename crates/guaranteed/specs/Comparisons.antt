@@ -7,7 +7,7 @@ use lib.ListN.{length}
 use Rattle.plan.specs.Bounds.{TermsBounds}
 use Rattle.plan.specs.Discount.{Layer}
 use Rattle.plan.specs.Comparison as plan
-use Rattle.plan.specs.Comparison.{Figures, Beside, comparePremiums, compareDifferences}
+use Rattle.plan.specs.Comparison.{NumbersGiven, Beside, comparePremiums, compareDifferences}
 use Rattle.plan.specs.Calls.{Answer, refused, given, giving}
 use Rattle.rating.specs.Rates as rates
 use Rattle.steps.specs.Terms.{termsIs}
@@ -23,15 +23,15 @@ pub record Differing (t : Terms) (limiteds : List ℕ) (room : ℕ) : Type 0 whe
   pub enough : t .risks ≤ room
 
 -- what the call gives beside the premiums and the differences
-pub record Numbers : Type 0 where
+pub record Parts : Type 0 where
   -- Rate's n, M, Q and sum billed
   pub rated : rates.Figures
   pub discount : ℕ
   pub guaranteed : ℕ
   pub difference : ℤ
 
-abbrev pub numbersOf : plan.Comparison → Numbers
-numbersOf c = record {
+abbrev pub partsOf : plan.Comparison → Parts
+partsOf c = record {
   rated = rates.figuresOf (c .rated);
   discount = c .discount;
   guaranteed = c .guaranteed;
@@ -39,29 +39,29 @@ numbersOf c = record {
 }
 
 -- the code's answer
-abbrev pub numbersIn : Comparison → Numbers
-numbersIn g = record {
+abbrev pub partsIn : Comparison → Parts
+partsIn g = record {
   rated = record { risks = g .rated .risks; basic = pos (g .rated .basic); excess = g .rated .excess; billed = g .rated .billed };
   discount = g .discount;
   guaranteed = g .guaranteed;
   difference = g .difference;
 }
 
-abbrev pub numbersAre : Compared → Answer Numbers
-numbersAre (answers.Given g) = given (numbersIn g)
-numbersAre (answers.Refused k) = refused k
+abbrev pub partsAre : Compared → Answer Parts
+partsAre (answers.Given g) = given (partsIn g)
+partsAre (answers.Refused k) = refused k
 
 -- a call on the file s by the schedule ls, whose buffers held `oldPremiums` and `oldDifferences` and hold `premiums` and
 -- `differences` after it
 pub record CompareSays (s : List ℕ) (ls : List Layer) (oldPremiums : List ℕ) (oldDifferences : List ℤ) (r : Compared)
     (premiums : List ℕ) (differences : List ℤ) : Type 0 where
-  pub answer : numbersAre r ≡ giving numbersOf (plan.compare s ls (length oldPremiums) (length oldDifferences))
+  pub answer : partsAre r ≡ giving partsOf (plan.compare s ls (length oldPremiums) (length oldDifferences))
   pub premiums-after : premiums ≡ comparePremiums s ls oldPremiums oldDifferences
   pub differences-after : differences ≡ compareDifferences s ls oldPremiums oldDifferences
 
 -- the numbers of an answer, as what holds of a call that is not refused names them
-abbrev pub figuresIn : Comparison → Figures
-figuresIn g = record {
+abbrev pub numbersGiven : Comparison → NumbersGiven
+numbersGiven g = record {
   risks = g .rated .risks;
   basic = g .rated .basic;
   excess = g .rated .excess;
@@ -73,5 +73,5 @@ figuresIn g = record {
 
 -- what holds of a call on the file s that is not refused, which left t and u in the buffers
 abbrev pub BesideGiven : Compared → List ℕ → List ℕ → List ℤ → Type 0
-BesideGiven (answers.Given g) s t u = Beside s (figuresIn g) t u
+BesideGiven (answers.Given g) s t u = Beside s (numbersGiven g) t u
 BesideGiven (answers.Refused k) s t u = Unit {0}

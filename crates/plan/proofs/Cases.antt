@@ -223,10 +223,12 @@ GuaranteedCase =
     -- 'gives 13,505 on 125,000, so 111,495'
     (discount (stock 0) 125000 ≡ 13505)
     × (guaranteedCost (stock 0) 125000 ≡ 111495)
-    -- two halves of a dollar are one: rounded once, not in each layer
+    -- two quarters of a dollar are an exact half, which goes up to 1; rounded in each layer they would be 0
     × (discount (layer 1 250 ∷ layer 1 250 ∷ layer 1 0 ∷ layer 0 0 ∷ []) 2 ≡ 1)
     -- an exact half upward
     × (discount (layer 1 500 ∷ layer 1 0 ∷ layer 1 0 ∷ layer 0 0 ∷ []) 1 ≡ 1)
+    -- what reaches the last layer, whose width is not looked at
+    × (discount (stock 0) 600000 ≡ 75155)
     -- the largest premium: all of it, and widths that add up to more than 32 bits
     × (discount (layer 1 1000 ∷ layer 2 1000 ∷ layer 3 1000 ∷ layer 0 1000 ∷ []) 4194303 ≡ 4194303)
     × (discount (layer 4294967295 100 ∷ layer 4294967295 200 ∷ layer 4294967295 300 ∷ layer 0 400 ∷ []) 4194303 ≡ 419430)
@@ -242,7 +244,7 @@ GuaranteedCase =
 
 guaranteedCase : GuaranteedCase
 unfolding number bit field claimAt pastClaim countAt firstClaim limitedOf LG LH SX SS ratable basicPremium excessCharge nearest billRounding billWith ratedOf discount guaranteedCost comparisonOf compare
-guaranteedCase = (refl, refl, refl, refl, refl, refl, refl, refl, refl, refl, refl, refl, refl, refl)
+guaranteedCase = (refl, refl, refl, refl, refl, refl, refl, refl, refl, refl, refl, refl, refl, refl, refl)
 
 -- all of them: 'gathered as one checked list'
 pub provedCases : FourCase × TableCase × OtherCases × GuaranteedCase

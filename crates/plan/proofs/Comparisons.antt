@@ -24,7 +24,7 @@ use Rattle.plan.specs.Questions.{passed, firstNo, ratingQuestions, rateQ
 use Rattle.plan.specs.Calls.{Answer, given, answer, filled, bufferAfter, Rated, ratedOf, rate, premiumBytes}
 use Rattle.plan.specs.Discount.{Layer, discount, guaranteedCost, ratesPass}
 use Rattle.plan.specs.Comparison.{differencesOf, compareEnough, scheduleQuestions, compareQuestions}
-use Rattle.plan.specs.Comparison.{Comparison, comparisonOf, compare, Figures, Beside}
+use Rattle.plan.specs.Comparison.{Comparison, comparisonOf, compare, NumbersGiven, Sized, Beside}
 use Rattle.plan.proofs.Tests.{both}
 use Rattle.plan.proofs.Differences.{Differs, of-pos, of-add, of-minus, same, between}
 use Rattle.plan.proofs.Filled.{first-filled}
@@ -86,9 +86,74 @@ module _ (s : List ℕ) (ls : List Layer) (premiumsRoom differencesRoom : ℕ) (
       answered (ratedOf (headerOf s) (lossesIn s)) all
       ∙ ap (λ (x : Comparison). given (x .rated)) is
 
+-- ---- sizes, of a call that is not refused
+
+module _ (s : List ℕ) (ls : List Layer) (premiumsRoom differencesRoom : ℕ) (c : Comparison)
+    (gave : compare s ls premiumsRoom differencesRoom ≡ given c) where
+  sound : RatingSound s
+  sound =
+      rating-sound s
+      (passed-both (ratingQuestions s) (question13 (compareEnough s premiumsRoom differencesRoom) ∷ scheduleQuestions ls)
+      (asked s ls premiumsRoom differencesRoom c gave) .0)
+
+  bounds : GroupBounds (headerOf s) (lossesIn s)
+  bounds = group-bounds s (sound .losses .file)
+
+  cost-most : guaranteedCost ls (headerOf s .standardPremium) ≤ 4194303
+  cost-most =
+      omega (
+        arith,
+        discounts.less-discount ls (rates s ls premiumsRoom differencesRoom c gave) (headerOf s .standardPremium),
+        bounds .premium,
+      )
+
+  bill-lt : (r : Losses) → billedPremium (headerOf s) (lossesIn s) r < 2 ^ 31
+  bill-lt r =
+      bills.bill-lt (termsOf (headerOf s) (lossesIn s)) (terms-bounds (headerOf s) (lossesIn s) bounds (sound .balance))
+      (natAbs (basicPremium (headerOf s) (lossesIn s)))
+      (pos-natAbs (basicPremium (headerOf s) (lossesIn s)) (subst T (sym (sound .balance .not-negative)) tt)) (r .limited)
+
+  -- each difference is from −4,194,303 to below 2 ^ 31
+  each-between : (r : Losses)
+      → let z = pos (billedPremium (headerOf s) (lossesIn s) r) -ℤ pos (guaranteedCost ls (headerOf s .standardPremium)) in
+      (negsuc 4194302 ≤ℤ z) × (z <ℤ pos 2147483648)
+  each-between r =
+      let b = billedPremium (headerOf s) (lossesIn s) r in
+      let g = guaranteedCost ls (headerOf s .standardPremium) in
+      between (pos b -ℤ pos g) (of-minus (pos b) (pos g) (of-pos b) (of-pos g)) (omega (arith, bill-lt r)) (omega (arith, cost-most))
+
+  each-sized : (rs : List Losses) → Sized (differencesOf (guaranteedCost ls (headerOf s .standardPremium)) (map (billedPremium (headerOf s) (lossesIn s)) rs))
+  each-sized [] = tt
+  each-sized (r ∷ rs) = (each-between r .0, each-between r .1, each-sized rs)
+
+  all-sized : Sized (c .differences)
+  unfolding comparisonOf
+  all-sized = subst (λ (x : Comparison). Sized (x .differences)) (is s ls premiumsRoom differencesRoom c gave) (each-sized (lossesIn s))
+
+  -- and their sum from −1,069,547,265 to below 547,608,330,240
+  sum-between : (negsuc 1069547264 ≤ℤ c .difference) × (c .difference <ℤ pos 547608330240)
+  unfolding comparisonOf
+  sum-between =
+      let h = headerOf s in
+      let rs = lossesIn s in
+      let g = guaranteedCost ls (h .standardPremium) in
+      let ps : List ℕ = billedPremiums h rs in
+      let n : length ps ≡ length rs = length-map rs (billedPremium h rs) in
+      let most : sum ps ≤ length rs * 2147483647 =
+      subst (λ (x : ℕ). x ≤ length rs * 2147483647) (sym (sum-map (λ x. x) (billedPremium h rs) rs))
+      (subst (λ (x : ℕ). sumOf (billedPremium h rs) rs ≤ x) (sum-const 2147483647 rs)
+      (sum-le (billedPremium h rs) (λ r. 2147483647) (λ r. omega (arith, bill-lt r)) rs)) in
+      let taken : length ps * g ≤ mostRisks * 4194303 = mul-le-mul (subst (λ (k : ℕ). k ≤ mostRisks) (sym n) (bounds .risks)) cost-most in
+      let z = sumZ (λ z. z) (differencesOf g ps) in
+      let d : (negsuc 1069547264 ≤ℤ z) × (z <ℤ pos 547608330240) =
+      between z (added g ps) (omega (arith, most, bounds .risks)) (omega (arith, taken)) in
+      subst (λ (x : Comparison). (negsuc 1069547264 ≤ℤ x .difference) × (x .difference <ℤ pos 547608330240)) (is s ls premiumsRoom differencesRoom c gave) d
+
+-- ---- all that is said of it
+
 -- the numbers that a call gives, with M as the amount m
-abbrev pub figuresOf : Comparison → ℕ → Figures
-figuresOf c m = record {
+abbrev pub numbersWith : Comparison → ℕ → NumbersGiven
+numbersWith c m = record {
   risks = c .rated .risks;
   basic = m;
   excess = c .rated .excess;
@@ -101,7 +166,7 @@ figuresOf c m = record {
 -- what such a call gives and leaves in its buffers
 module _ (s : List ℕ) (ls : List Layer) (oldPremiums : List ℕ) (oldDifferences : List ℤ) where
   abbrev left : Comparison → ℕ → Type 0
-  left c m = Beside s (figuresOf c m) (filled (premiumBytes (c .rated)) oldPremiums) (filled (c .differences) oldDifferences)
+  left c m = Beside s (numbersWith c m) (filled (premiumBytes (c .rated)) oldPremiums) (filled (c .differences) oldDifferences)
 
   module _ (c : Comparison) (gave : compare s ls (length oldPremiums) (length oldDifferences) ≡ given c) where
     enough : 4 * riskCount s ≤ length oldPremiums
@@ -137,6 +202,10 @@ module _ (s : List ℕ) (ls : List Layer) (oldPremiums : List ℕ) (oldDifferenc
               first
               ∙ ap (differencesOf cost) (sym numbers)
               ∙ ap (λ (x : Comparison). differencesOf (x .guaranteed) (numbersIn t (riskCount s))) all;
+          sized =
+              subst Sized (ap (λ (x : Comparison). x .differences) (sym all) ∙ sym first) (all-sized s ls _ _ c gave);
+          sum-least = sum-between s ls _ _ c gave .0;
+          sum-most = sum-between s ls _ _ c gave .1;
           summed = ap (λ (x : Comparison). x .difference) (sym all) ∙ ap (sumZ (λ z. z)) (sym first);
           total =
               ap (λ (x : Comparison). x .difference) (sym all)
@@ -153,58 +222,3 @@ module _ (s : List ℕ) (ls : List Layer) (oldPremiums : List ℕ) (oldDifferenc
                 premiums = (ap (λ (x : Comparison). x .rated .premiums) (sym all) ∙ sym numbers) i;
               }));
         }
-
--- ---- sizes, of a call that is not refused
-
-module _ (s : List ℕ) (ls : List Layer) (premiumsRoom differencesRoom : ℕ) (c : Comparison)
-    (gave : compare s ls premiumsRoom differencesRoom ≡ given c) where
-  sound : RatingSound s
-  sound =
-      rating-sound s
-      (passed-both (ratingQuestions s) (question13 (compareEnough s premiumsRoom differencesRoom) ∷ scheduleQuestions ls)
-      (asked s ls premiumsRoom differencesRoom c gave) .0)
-
-  bounds : GroupBounds (headerOf s) (lossesIn s)
-  bounds = group-bounds s (sound .losses .file)
-
-  cost-most : guaranteedCost ls (headerOf s .standardPremium) ≤ 4194303
-  cost-most =
-      omega (
-        arith,
-        discounts.less-discount ls (rates s ls premiumsRoom differencesRoom c gave) (headerOf s .standardPremium),
-        bounds .premium,
-      )
-
-  bill-lt : (r : Losses) → billedPremium (headerOf s) (lossesIn s) r < 2 ^ 31
-  bill-lt r =
-      bills.bill-lt (termsOf (headerOf s) (lossesIn s)) (terms-bounds (headerOf s) (lossesIn s) bounds (sound .balance))
-      (natAbs (basicPremium (headerOf s) (lossesIn s)))
-      (pos-natAbs (basicPremium (headerOf s) (lossesIn s)) (subst T (sym (sound .balance .not-negative)) tt)) (r .limited)
-
-  -- each difference is from −4,194,303 to below 2 ^ 31
-  pub each-between : (r : Losses)
-      → let z = pos (billedPremium (headerOf s) (lossesIn s) r) -ℤ pos (guaranteedCost ls (headerOf s .standardPremium)) in
-      (negsuc 4194302 ≤ℤ z) × (z <ℤ pos 2147483648)
-  each-between r =
-      let b = billedPremium (headerOf s) (lossesIn s) r in
-      let g = guaranteedCost ls (headerOf s .standardPremium) in
-      between (pos b -ℤ pos g) (of-minus (pos b) (pos g) (of-pos b) (of-pos g)) (omega (arith, bill-lt r)) (omega (arith, cost-most))
-
-  -- and their sum from −1,069,547,265 to below 547,608,330,240
-  pub sum-between : (negsuc 1069547264 ≤ℤ c .difference) × (c .difference <ℤ pos 547608330240)
-  unfolding comparisonOf
-  sum-between =
-      let h = headerOf s in
-      let rs = lossesIn s in
-      let g = guaranteedCost ls (h .standardPremium) in
-      let ps : List ℕ = billedPremiums h rs in
-      let n : length ps ≡ length rs = length-map rs (billedPremium h rs) in
-      let most : sum ps ≤ length rs * 2147483647 =
-      subst (λ (x : ℕ). x ≤ length rs * 2147483647) (sym (sum-map (λ x. x) (billedPremium h rs) rs))
-      (subst (λ (x : ℕ). sumOf (billedPremium h rs) rs ≤ x) (sum-const 2147483647 rs)
-      (sum-le (billedPremium h rs) (λ r. 2147483647) (λ r. omega (arith, bill-lt r)) rs)) in
-      let taken : length ps * g ≤ mostRisks * 4194303 = mul-le-mul (subst (λ (k : ℕ). k ≤ mostRisks) (sym n) (bounds .risks)) cost-most in
-      let z = sumZ (λ z. z) (differencesOf g ps) in
-      let d : (negsuc 1069547264 ≤ℤ z) × (z <ℤ pos 547608330240) =
-      between z (added g ps) (omega (arith, most, bounds .risks)) (omega (arith, taken)) in
-      subst (λ (x : Comparison). (negsuc 1069547264 ≤ℤ x .difference) × (x .difference <ℤ pos 547608330240)) (is s ls premiumsRoom differencesRoom c gave) d

@@ -79,7 +79,7 @@ crossed z w p q e = omega (arith, p .is, q .is, ap over e, ap under e)
 pub pos-≤ : {a b : ℕ} → a ≤ b → pos a ≤ℤ pos b
 pos-≤ {a} {b} h = record { le = le→leb a b h }
 
--- a difference of two numbers below a bound is within it on both sides
+-- a difference a − b with a below a bound and b at most that bound is within it on both sides
 pub mag-lt : (z : ℤ) {a b m : ℕ} → Differs z a b → a < m → b ≤ m → mag z < m
 mag-lt (pos n) d h k = omega (arith, d .is)
 mag-lt (negsuc n) d h k = omega (arith, d .is)

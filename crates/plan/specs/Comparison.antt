@@ -6,7 +6,8 @@ use mathlib.Core.Bool.{Bool, _&&_}
 use mathlib.Core.List.{List, [], _∷_, _++_, map}
 use Prim.Native.Nat.{ℕ, _+_, _*_, _≤_}
 use lib.Dec.{leb}
-use lib.IntN.{ℤ, pos, _-ℤ_}
+use lib.IntN.{ℤ, pos, negsuc, _-ℤ_}
+use lib.Signed.{_≤ℤ_, _<ℤ_}
 use lib.ListN.{length, take}
 use Rattle.plan.specs.Arithmetic.{sumZ}
 use Rattle.plan.specs.Header.{Header, headerOf, riskCount}
@@ -87,7 +88,7 @@ compareDifferences s ls oldPremiums oldDifferences =
 -- ---- what holds of a call that is not refused
 
 -- the numbers that it gives: n, M, Q, the sum billed, the discount, guaranteed cost and the sum of the differences
-pub record Figures : Type 0 where
+pub record NumbersGiven : Type 0 where
   pub risks : ℕ
   pub basic : ℕ
   pub excess : ℕ
@@ -96,18 +97,27 @@ pub record Figures : Type 0 where
   pub guaranteed : ℕ
   pub difference : ℤ
 
+-- numbers of which each is from −4,194,303 to below 2 ^ 31
+abbrev pub Sized : List ℤ → Type 0
+Sized [] = Unit {0}
+Sized (z ∷ zs) = (negsuc 4194302 ≤ℤ z) × (z <ℤ pos 2147483648) × Sized zs
+
 -- of the file s, the numbers given, and the bytes t and the differences u in the two buffers after the call
-pub record Beside (s : List ℕ) (f : Figures) (t : List ℕ) (u : List ℤ) : Type 0 where
+pub record Beside (s : List ℕ) (f : NumbersGiven) (t : List ℕ) (u : List ℤ) : Type 0 where
   -- the discount is at most P, and guaranteed cost is P less it
   pub discount-most : f .discount ≤ headerOf s .standardPremium
   pub less-discount : f .guaranteed + f .discount ≡ headerOf s .standardPremium
   -- each risk's number in the one buffer less guaranteed cost is its number in the other
   pub differences-are : take (riskCount s) u ≡ differencesOf (f .guaranteed) (numbersIn t (riskCount s))
+  -- the sizes of the differences, and of their sum, which is at most of 255
+  pub sized : Sized (take (riskCount s) u)
+  pub sum-least : negsuc 1069547264 ≤ℤ f .difference
+  pub sum-most : f .difference <ℤ pos 547608330240
   -- 'and their sum'
   pub summed : f .difference ≡ sumZ (λ z. z) (take (riskCount s) u)
   -- the sum of the differences is the sum billed − n × guaranteed cost
   pub total : f .difference ≡ pos (f .billed) -ℤ pos (f .risks * f .guaranteed)
-  -- 'Rate itself stays': with a long enough buffer it gives the same n, M, Q, sum and premiums on the file
+  -- 'Beside Rate's results': Rate, with any buffer that is long enough, gives the same n, M, Q, sum and premiums on the file
   pub as-rated : (room : ℕ) → 4 * riskCount s ≤ room
       → rate s room
       ≡ given (record {
@@ -119,6 +129,6 @@ pub record Beside (s : List ℕ) (f : Figures) (t : List ℕ) (u : List ℤ) : T
       })
 
 -- of a call that answers a
-abbrev pub BesideAfter : Answer Comparison → List ℕ → Figures → List ℕ → List ℤ → Type 0
+abbrev pub BesideAfter : Answer Comparison → List ℕ → NumbersGiven → List ℕ → List ℤ → Type 0
 BesideAfter (refused k) s f t u = Unit {0}
 BesideAfter (given c) s f t u = Beside s f t u

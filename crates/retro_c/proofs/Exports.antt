@@ -25,7 +25,7 @@ use Rattle.retro_c.specs.Exported.{codeOf, Numbers, numbers, BasicAfter,
 use Rattle.plan.specs.Discount.{Layer}
 use Rattle.plan.specs.Comparison as comparison
 use Rattle.plan.specs.Comparison.{Comparison, compare, BesideAfter}
-use Rattle.guaranteed.specs.Comparisons.{numbersOf, numbersIn, figuresIn, CompareSays, BesideGiven}
+use Rattle.guaranteed.specs.Comparisons.{partsOf, partsIn, numbersGiven, CompareSays, BesideGiven}
 use Rattle.guaranteed.specs.Comparisons as guaranteed
 use Rattle.guaranteed.specs.declared.Comparison as comparing
 use Rattle.guaranteed.specs.declared.Compared.the-variants as compares
@@ -155,10 +155,10 @@ module _ (s : List ℕ) (ls : List Layer) (oldPremiums : List ℕ) (oldDifferenc
   abbrev compared : Answer Comparison
   compared = compare s ls (length oldPremiums) (length oldDifferences)
 
-  pub compare-refused : (k : ℕ) (f : comparison.Figures) → CompareSays s ls oldPremiums oldDifferences (compares.Refused k) premiums differences
+  pub compare-refused : (k : ℕ) (f : comparison.NumbersGiven) → CompareSays s ls oldPremiums oldDifferences (compares.Refused k) premiums differences
       → CompareExported compared oldPremiums oldDifferences k f f premiums differences
   compare-refused k f x =
-      let e : compared ≡ refused k = giving-refused numbersOf compared (x .answer) in
+      let e : compared ≡ refused k = giving-refused partsOf compared (x .answer) in
       record {
         code-is = sym (ap codeOf e);
         risks-are = kept (λ (c : Comparison). c .rated .risks) (f .risks) e;
@@ -173,33 +173,33 @@ module _ (s : List ℕ) (ls : List Layer) (oldPremiums : List ℕ) (oldDifferenc
       }
 
   -- of a refusal nothing more is said
-  pub none-beside : (k : ℕ) (f : comparison.Figures) → CompareSays s ls oldPremiums oldDifferences (compares.Refused k) premiums differences
+  pub none-beside : (k : ℕ) (f : comparison.NumbersGiven) → CompareSays s ls oldPremiums oldDifferences (compares.Refused k) premiums differences
       → BesideAfter compared s f premiums differences
   none-beside k f x =
-      subst (λ (a : Answer Comparison). BesideAfter a s f premiums differences) (sym (giving-refused numbersOf compared (x .answer))) tt
+      subst (λ (a : Answer Comparison). BesideAfter a s f premiums differences) (sym (giving-refused partsOf compared (x .answer))) tt
 
   module _ (g : comparing.Comparison) (x : CompareSays s ls oldPremiums oldDifferences (compares.Given g) premiums differences) where
-    all-given : Gave numbersOf compared (numbersIn g)
-    all-given = giving-given numbersOf compared (x .answer)
+    all-given : Gave partsOf compared (partsIn g)
+    all-given = giving-given partsOf compared (x .answer)
 
-    pub compare-given : (f : comparison.Figures) → CompareExported compared oldPremiums oldDifferences 0 f (figuresIn g) premiums differences
+    pub compare-given : (f : comparison.NumbersGiven) → CompareExported compared oldPremiums oldDifferences 0 f (numbersGiven g) premiums differences
     compare-given f =
         let e = all-given .is in
         let p = all-given .part in
         record {
           code-is = sym (ap codeOf e);
-          risks-are = set-to (λ (c : Comparison). c .rated .risks) (f .risks) e (ap (λ (y : guaranteed.Numbers). y .rated .risks) p);
+          risks-are = set-to (λ (c : Comparison). c .rated .risks) (f .risks) e (ap (λ (y : guaranteed.Parts). y .rated .risks) p);
           basic-is =
               subst (λ (a : Answer Comparison). BasicAfter (giving (λ c. c .rated) a) (f .basic) (g .rated .basic)) (sym e)
-              (sym (ap (λ (y : guaranteed.Numbers). y .rated .basic) p));
-          excess-is = set-to (λ (c : Comparison). c .rated .excess) (f .excess) e (ap (λ (y : guaranteed.Numbers). y .rated .excess) p);
-          billed-is = set-to (λ (c : Comparison). c .rated .billed) (f .billed) e (ap (λ (y : guaranteed.Numbers). y .rated .billed) p);
-          discount-is = set-to (λ (c : Comparison). c .discount) (f .discount) e (ap (λ (y : guaranteed.Numbers). y .discount) p);
-          guaranteed-is = set-to (λ (c : Comparison). c .guaranteed) (f .guaranteed) e (ap (λ (y : guaranteed.Numbers). y .guaranteed) p);
-          difference-is = set-to (λ (c : Comparison). c .difference) (f .difference) e (ap (λ (y : guaranteed.Numbers). y .difference) p);
+              (sym (ap (λ (y : guaranteed.Parts). y .rated .basic) p));
+          excess-is = set-to (λ (c : Comparison). c .rated .excess) (f .excess) e (ap (λ (y : guaranteed.Parts). y .rated .excess) p);
+          billed-is = set-to (λ (c : Comparison). c .rated .billed) (f .billed) e (ap (λ (y : guaranteed.Parts). y .rated .billed) p);
+          discount-is = set-to (λ (c : Comparison). c .discount) (f .discount) e (ap (λ (y : guaranteed.Parts). y .discount) p);
+          guaranteed-is = set-to (λ (c : Comparison). c .guaranteed) (f .guaranteed) e (ap (λ (y : guaranteed.Parts). y .guaranteed) p);
+          difference-is = set-to (λ (c : Comparison). c .difference) (f .difference) e (ap (λ (y : guaranteed.Parts). y .difference) p);
           premiums-are = x .premiums-after;
           differences-are = x .differences-after;
         }
 
-    pub all-beside : BesideGiven (compares.Given g) s premiums differences → BesideAfter compared s (figuresIn g) premiums differences
-    all-beside b = subst (λ (a : Answer Comparison). BesideAfter a s (figuresIn g) premiums differences) (sym (all-given .is)) b
+    pub all-beside : BesideGiven (compares.Given g) s premiums differences → BesideAfter compared s (numbersGiven g) premiums differences
+    all-beside b = subst (λ (a : Answer Comparison). BesideAfter a s (numbersGiven g) premiums differences) (sym (all-given .is)) b

@@ -1,4 +1,4 @@
--- What the exported calls say, as equations with document 01: the answer's number, each lent number and each lent buffer.
+-- What the exported calls say, as equations with documents 01 and 02: the answer's number, each lent number and each lent buffer.
 use mathlib.Core.Path.{_≡_}
 use mathlib.Core.List.{List}
 use Prim.Native.Nat.{ℕ}
@@ -7,7 +7,7 @@ use lib.ListN.{length}
 use Rattle.plan.specs.Header as plan
 use Rattle.plan.specs.Calls.{Answer, refused, given, giving, numberAfter, Rated, rate, rateBuffer, Tabled, table, Group, read, readCounts}
 use Rattle.plan.specs.Calls.{readClaims, write, writeBuffer, writeLength, bufferAfter, premiumBytes}
-use Rattle.plan.specs.Comparison.{Comparison, Figures}
+use Rattle.plan.specs.Comparison.{Comparison, NumbersGiven}
 use Rattle.retro_c.specs.declared.RetroGroup.{RetroGroup}
 
 -- 0 where a call has a result, else the number of the first No
@@ -92,12 +92,12 @@ pub record WriteExported (g : Group) (old : List ℕ) (code oldSize newSize : �
   pub buffer-is : new ≡ writeBuffer g old
 
 -- the seven numbers lent to the call that sets guaranteed cost beside Rate
-abbrev pub lent : ℕ → ℕ → ℕ → ℕ → ℕ → ℕ → ℤ → Figures
+abbrev pub lent : ℕ → ℕ → ℕ → ℕ → ℕ → ℕ → ℤ → NumbersGiven
 lent n m q b d g z = record { risks = n; basic = m; excess = q; billed = b; discount = d; guaranteed = g; difference = z }
 
 -- a call of retro_guaranteed to which document 02 answers a, with buffers that held `oldPremiums` and `oldDifferences` and the
 -- numbers `before`, and what is there after it
-pub record CompareExported (a : Answer Comparison) (oldPremiums : List ℕ) (oldDifferences : List ℤ) (code : ℕ) (before after : Figures)
+pub record CompareExported (a : Answer Comparison) (oldPremiums : List ℕ) (oldDifferences : List ℤ) (code : ℕ) (before after : NumbersGiven)
     (premiums : List ℕ) (differences : List ℤ) : Type 0 where
   pub code-is : code ≡ codeOf a
   pub risks-are : after .risks ≡ numberAfter (λ c. c .rated .risks) a (before .risks)

@@ -10,7 +10,7 @@ use mir.Syntax.{w64}
 use mir.Val.{toZ, ofZ}
 use mir.Facts.{toZ-ofZ}
 use Rattle.plan.specs.Discount.{Layer}
-use Rattle.plan.specs.Comparison.{Figures, compare, BesideAfter}
+use Rattle.plan.specs.Comparison.{NumbersGiven, compare, BesideAfter}
 use Rattle.discount.specs.Schedules.{layersOf}
 use Rattle.guaranteed.specs.Comparisons.{CompareSays, BesideGiven}
 use Rattle.guaranteed.specs.declared.Compared.{Compared}
@@ -32,7 +32,7 @@ abbrev layers : tie.After-compare → List Layer
 layers r = layersOf (start r .args .schedule .layers)
 
 -- the numbers as they were lent
-abbrev were : tie.After-compare → Figures
+abbrev were : tie.After-compare → NumbersGiven
 were r =
     let a = start r .args in
     lent (a .risks .now) (a .basic .now) (a .excess .now) (a .billed .now) (a .discount .now) (a .guaranteed .now) (a .difference .now)
@@ -85,7 +85,7 @@ returns-2 c =
     let h = subst (λ (y : Compared). BesideGiven y s (r .compare .last .1 .1 .0) (r .compare .last .1 .1 .1 .0)) e (r .compare .ensures .1) in
     let fits : mag (g .difference) < 2 ^ 63 = search needs in
     let back : toZ w64 (ofZ w64 (g .difference)) ≡ g .difference = toZ-ofZ (record { sfits = fits }) in
-    let numbers : ℤ → Figures =
+    let numbers : ℤ → NumbersGiven =
     λ (z : ℤ). lent (g .rated .risks) (g .rated .basic) (g .rated .excess) (g .rated .billed) (g .discount) (g .guaranteed) z in
     let answer = compare s (layers r) (length (a .premiums .now)) (length (a .differences .now)) in (
       subst (λ (z : ℤ). CompareExported answer (a .premiums .now) (a .differences .now) 0 (were r) (numbers z) (r .compare .last .1 .1 .0) (r .compare .last .1 .1 .1 .0))
