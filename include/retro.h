@@ -92,7 +92,7 @@ typedef struct retro_header {
 
 /* A layer of a premium discount schedule. */
 typedef struct retro_layer {
-    uint32_t width; /* whole dollars; at least 1, and not looked at in the last layer */
+    uint32_t width; /* whole dollars; at least 1 in the first three, not looked at in the last */
     uint32_t rate;  /* tenths of a percent; at most 1,000 */
 } retro_layer;
 
@@ -139,8 +139,8 @@ uint32_t retro_rate(const uint8_t *file, size_t file_len, uint8_t *premiums, siz
  * Rates a group file and sets each premium beside guaranteed cost, which is the standard premium
  * less the premium discount of a schedule: what the plan saved or cost.
  *
- *     schedule     has the four layers. The part of the standard premium in each of the first three
- *                  ends at the layer's width, and the last layer has all that is left.
+ *     schedule     has the four layers. Each of the first three takes at most its width of what the
+ *                  layers before it left of the standard premium; the last takes all that is left.
  *     premiums     gets the billed premium of each risk in file order, in whole dollars, as four
  *                  bytes with the most significant first. Four bytes for each risk are enough, so
  *                  4 * RETRO_MOST_RISKS always are. Later bytes keep their contents.
@@ -158,8 +158,8 @@ uint32_t retro_rate(const uint8_t *file, size_t file_len, uint8_t *premiums, siz
  *                  dollar, an exact half upward. It is at most the standard premium.
  *     guaranteed   gets guaranteed cost in whole dollars, the same for each risk: the standard
  *                  premium less the discount, 0 to 4,194,303.
- *     difference   gets the sum of the differences in dollars. Without its sign it is below
- *                  550,000,000,000.
+ *     difference   gets the sum of the differences in dollars, which is billed less risks times
+ *                  guaranteed. Without its sign it is below 550,000,000,000.
  *
  * The premiums, risks, basic, excess and billed are those of retro_rate for the same file. With
  * layers of 5,000 at 0, 95,000 at 109 and 400,000 at 126 and the rest at 144, a standard premium of

@@ -244,7 +244,7 @@ fn the_last_width_is_not_looked_at() {
 }
 
 #[test]
-fn the_largest_differences() {
+fn the_largest_group() {
     // All of P is discount, and each premium is 2 × 64 × 1,048,575.
     let all = stock().map(|layer| Layer {
         rate: 1_000,
@@ -255,6 +255,31 @@ fn the_largest_differences() {
     assert_eq!(given.numbers.guaranteed, 0);
     assert_eq!(given.differences, [134_217_600; 255]);
     assert_eq!(given.numbers.difference, 34_225_488_000);
+}
+
+#[test]
+fn a_larger_difference() {
+    // All losses of ten risks are one risk's, 63 × 1,048,575. The other premiums are the basic
+    // premium alone, and guaranteed cost is 0.
+    let all = stock().map(|layer| Layer {
+        rate: 1_000,
+        ..layer
+    });
+    let mut sample = largest();
+    sample.header.loss_limit = 0;
+    sample.header.conversion = 1_931;
+    sample.header.mark_kind = 1;
+    sample.header.maximum_mark = 6_000;
+    sample.header.minimum_mark = 0;
+    sample.risks = vec![vec![]; 10];
+    sample.risks[0] = vec![1_048_575; 63];
+    let given = guaranteed(&sample.file(), all, 40, 10).unwrap();
+    assert_eq!(given.numbers.guaranteed, 0);
+    assert_eq!(given.differences[0], 153_076_473);
+    assert_eq!(
+        given.differences.iter().sum::<i64>(),
+        given.numbers.difference
+    );
 }
 
 #[test]

@@ -1,14 +1,15 @@
 -- What is asked of the rows and taken by them, row by row as the loops go. Assumes nothing.
 use mathlib.Core.Path.{_≡_, refl, sym, ap, _∙_}
-use mathlib.Core.Bool.{true, _&&_}
+use mathlib.Core.Bool.{Bool, true, false, _&&_}
 use mathlib.Core.List.{List}
-use Prim.Native.Nat.{ℕ, zero, suc, _+_, _*_, _-_, _<_, min}
+use Prim.Native.Nat.{ℕ, zero, suc, _+_, _*_, _-_, _≤_, _<_, min}
 use native.Mathlib.Numerals.{add-one}
 use native.Mathlib.Omega.{arith}
 use lib.Dec.{leb}
 use lib.ListN.{getD, drop}
 use Rattle.plan.specs.Discount as plan
 use Rattle.plan.specs.Discount.{discountSum, mostRate, ratesPass, widthsPass}
+use Rattle.plan.proofs.Tests.{and-first-no}
 use Rattle.plan.proofs.Discounts as discounts
 use Rattle.discount.specs.Schedules.{noLayer, layerAt, layersOf}
 use Rattle.discount.specs.declared.schedule.Layer.{Layer}
@@ -50,3 +51,23 @@ module _ (rows : List Layer) where
         let e = row-is i (omega (arith, h)) in
         discounts.layer-taken (layersOf rows) i none (omega (arith, h)) p
         ∙ (λ j. min p (e j .width) * e j .rate + discountSum (next j) (p - e j .width))
+
+-- ---- a loop that asks row after row
+
+-- of the rows to be asked i have passed: what all come to is what those from row i on come to
+pub record Asking (all : Bool) (rest : ℕ → Bool) (limit i : ℕ) : Type 0 where
+  pub within : i ≤ limit
+  pub same : all ≡ rest i
+
+module _ {all : Bool} {rest : ℕ → Bool} {limit i : ℕ} (w : Asking all rest limit i) where
+  -- the first No is the result
+  pub asked-no : {b : Bool} → rest i ≡ b && rest (i + 1) → b ≡ false → false ≡ all
+  asked-no e f = sym (w .same ∙ e ∙ and-first-no (rest (i + 1)) f)
+
+  -- a Yes goes on
+  pub asked-yes : {b : Bool} → i < limit → rest i ≡ b && rest (i + 1) → b ≡ true → Asking all rest limit (i + 1)
+  asked-yes h e f = record { within = omega arith; same = w .same ∙ e ∙ ap (λ (x : Bool). x && rest (i + 1)) f }
+
+  -- all are asked
+  pub asked-all : limit ≤ i → rest limit ≡ true → true ≡ all
+  asked-all h e = let last : i ≡ limit = omega (arith, h, w .within) in sym (w .same ∙ ap rest last ∙ e)
