@@ -136,8 +136,8 @@ uint32_t retro_rate(const uint8_t *file, size_t file_len, uint8_t *premiums, siz
                     uint32_t *risks, uint64_t *basic, uint64_t *excess, uint64_t *billed);
 
 /*
- * Rates a group file and sets each premium beside guaranteed cost, which is the standard premium
- * less the premium discount of a schedule: what the plan saved or cost.
+ * Rates a group file and sets each premium beside guaranteed cost, to show what the plan saved or
+ * cost. Guaranteed cost is the standard premium less the premium discount of a schedule.
  *
  *     schedule     has the four layers. Each of the first three takes at most its width of what the
  *                  layers before it left of the standard premium; the last takes all that is left.
@@ -211,7 +211,8 @@ retro_group retro_read(const uint8_t *file, size_t file_len, uint8_t *counts, si
  *             file keep their contents.
  *     length  gets the number of bytes of the file.
  *
- * The file may yet be refused with 10, 11 or 12 by retro_rate, and with 10 by retro_table.
+ * The file may yet be refused with 10, 11 or 12 by retro_rate and retro_guaranteed, and with 10 by
+ * retro_table.
  */
 uint32_t retro_write(retro_header header, const uint8_t *counts, size_t counts_len,
                      const uint32_t *claims, size_t claims_len, uint8_t *file, size_t file_len,

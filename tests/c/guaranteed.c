@@ -1,10 +1,10 @@
 /*
- * A quoting program: rates the group file that it is given by name, and prints for each risk what
+ * A program for underwriters: rates the group file that it is given by name, and prints for each risk what
  * the plan saved or cost beside guaranteed cost, and the group's totals. The premium discount
  * schedule may follow as seven whole numbers, each width in dollars before its rate in tenths of a
  * percent, and the last rate alone; without them it is the stock schedule of 1986.
  *
- * Exit status: 0 quoted, 1 the file or the schedule is refused, 2 the file cannot be read, 3 wrong
+ * Exit status: 0 shown, 1 the file or the schedule is refused, 2 the file cannot be read, 3 wrong
  * usage, 4 the lines cannot be printed.
  */
 #include "retro.h"
@@ -15,7 +15,7 @@
 #include <stdlib.h>
 #include <string.h>
 
-enum { QUOTED = 0, REFUSED = 1, UNREADABLE = 2, USAGE = 3, UNPRINTED = 4 };
+enum { SHOWN = 0, REFUSED = 1, UNREADABLE = 2, USAGE = 3, UNPRINTED = 4 };
 
 /* What was read of the file. A byte more than the largest file has is refused as the whole is. */
 static uint8_t file[RETRO_LARGEST_FILE + 1];
@@ -90,7 +90,7 @@ static void print_difference(int64_t difference)
 }
 
 /* Prints the lines. Gives 0, or the refusal if the file or the schedule is refused. */
-static uint32_t quote(size_t len, retro_schedule schedule)
+static uint32_t show(size_t len, retro_schedule schedule)
 {
     uint8_t premiums[4 * RETRO_MOST_RISKS];
     int64_t differences[RETRO_MOST_RISKS];
@@ -131,7 +131,7 @@ int main(int argc, char **argv)
         fprintf(stderr, "guaranteed: %s cannot be read: %s\n", argv[1], strerror(failed));
         return UNREADABLE;
     }
-    uint32_t refused = quote(len, schedule);
+    uint32_t refused = show(len, schedule);
     if (refused != 0) {
         fprintf(stderr, "guaranteed: refused with %" PRIu32 ": %s\n", refused, reason(refused));
         return REFUSED;
@@ -140,5 +140,5 @@ int main(int argc, char **argv)
         fprintf(stderr, "guaranteed: the lines cannot be printed\n");
         return UNPRINTED;
     }
-    return QUOTED;
+    return SHOWN;
 }

@@ -109,4 +109,4 @@ failure guaranteed-usage 3 guaranteed "$file" 5000 0 95000 109 4294967296 126 14
 failure guaranteed-missing 2 guaranteed examples/no-such-file.group
 unprinted guaranteed
 
-echo "guaranteed: 2 quotes, 9 refused, 1 unreadable, 4 wrong usages, 1 unprinted: as expected"
+echo "guaranteed: 2 groups shown, 9 refused, 1 unreadable, 4 wrong usages, 1 unprinted: as expected"

@@ -41,10 +41,9 @@ use Rattle.plan.proofs.Demand3.{demand3}
 -- ---- the order in which the call asks
 
 -- 'both after 13, which ends Rate's questions as they then stand'
-asked-in-order : (s : List ℕ) (ls : List Layer) (premiumsRoom differencesRoom : ℕ)
-    → numbers (compareQuestions s ls premiumsRoom differencesRoom)
-    ≡ 1 ∷ 2 ∷ 3 ∷ 4 ∷ 5 ∷ 6 ∷ 7 ∷ 8 ∷ 9 ∷ 10 ∷ 11 ∷ 12 ∷ 13 ∷ 16 ∷ 17 ∷ []
-asked-in-order s ls premiumsRoom differencesRoom = refl
+asked-in-order : (s : List ℕ) (ls : List Layer) (premiumsRoom differencesRoom room : ℕ)
+    → numbers (compareQuestions s ls premiumsRoom differencesRoom) ≡ numbers (rateQuestions s room) ++ 16 ∷ 17 ∷ []
+asked-in-order s ls premiumsRoom differencesRoom room = refl
 
 -- ---- the sum of the differences
 
