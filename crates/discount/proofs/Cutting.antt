@@ -1,6 +1,6 @@
 -- The loop that cuts a premium layer by layer: the parts taken times their rates, and what the layers to come take of what remains,
 -- are the whole sum. No rate is above 1,000, so the sum fits 32 bits at every row. Assumes nothing.
-use mathlib.Core.Path.{_≡_, refl, sym, ap, _∙_}
+use mathlib.Core.Path.{_≡_, sym, ap, _∙_}
 use mathlib.Core.List.{List}
 use Prim.Native.Nat.{ℕ, _+_, _*_, _-_, _/_, _≤_, _<_, min}
 use native.Mathlib.Omega.{arith}

@@ -15,7 +15,7 @@ use Rattle.plan.specs.Field.{slots, bytesOf}
 use Rattle.plan.specs.Header.{headerOf, riskCount}
 use Rattle.plan.specs.Losses.{lossesIn}
 use Rattle.plan.specs.Premium as plan
-use Rattle.plan.specs.Premium.{termsOf, billedPremiums}
+use Rattle.plan.specs.Premium.{termsOf}
 use Rattle.plan.specs.Questions.{Verdict, passed, failed, firstNo, orElse, ratingQuestions, rateEnough, question13}
 use Rattle.plan.specs.Calls.{Answer, given, answer, giving, filled, bufferAfter, ratedOf, premiumBytes}
 use Rattle.plan.specs.Discount.{Layer, discount, guaranteedCost, ratesPass}

@@ -2,7 +2,7 @@
 -- Rate gives on the file is what the call gives of it; the differences add up to the sum billed less n times guaranteed cost, since
 -- each takes guaranteed cost once. Assumes nothing.
 use mathlib.Core.Path.{_≡_, refl, sym, ap, _∙_, subst}
-use mathlib.Core.Bool.{Bool, true}
+use mathlib.Core.Bool.{true}
 use mathlib.Core.List.{List, [], _∷_, _++_, map}
 use Prim.Native.Nat.{ℕ, _+_, _*_, _^_, _≤_, _<_}
 use native.Mathlib.Nat.{mul-le-mul}
@@ -19,9 +19,9 @@ use Rattle.plan.specs.Losses.{Losses, lossesIn}
 use Rattle.plan.specs.Basic.{basicPremium}
 use Rattle.plan.specs.Premium.{termsOf, billedPremium, billedPremiums}
 use Rattle.plan.specs.Bounds.{GroupBounds}
-use Rattle.plan.specs.Demand3.{Demand3, numbersIn}
+use Rattle.plan.specs.Demand3.{numbersIn}
 use Rattle.plan.specs.Questions.{passed, firstNo, ratingQuestions, rateQuestions, rateEnough, question13}
-use Rattle.plan.specs.Calls.{Answer, given, answer, filled, bufferAfter, Rated, ratedOf, rate, premiumBytes}
+use Rattle.plan.specs.Calls.{Answer, given, filled, bufferAfter, Rated, ratedOf, rate, premiumBytes}
 use Rattle.plan.specs.Discount.{Layer, discount, guaranteedCost, ratesPass}
 use Rattle.plan.specs.Comparison.{differencesOf, compareEnough, scheduleQuestions, compareQuestions}
 use Rattle.plan.specs.Comparison.{Comparison, comparisonOf, compare, NumbersGiven, Sized, Beside}

@@ -8,7 +8,7 @@ use native.Mathlib.Nat.{mul-le-mul-left}
 use native.Mathlib.Omega.{arith}
 use borrow.Author.Tests.{leb-true}
 use lib.Dec.{leb, lit<}
-use lib.ListN.{length, getD, drop, drop-of-length-le}
+use lib.ListN.{length, getD, drop}
 use lib.Seq.{drop-cons}
 use Rattle.plan.specs.Discount.{Layer, discountSum, discount, guaranteedCost, mostRate, ratesPass, widthsPass}
 use Rattle.plan.proofs.Tests.{both}
@@ -74,10 +74,6 @@ module _ (ls : List Layer) (i : ℕ) (none : Layer) where
   two : suc i < length ls → drop i ls ≡ getD ls i none ∷ getD ls (suc i) none ∷ drop (suc (suc i)) ls
   two h = from (omega arith) ∙ ap (λ (x : List Layer). getD ls i none ∷ x) (drop-cons ls (suc i) none h)
 
-  -- no layer follows the last
-  one : suc i ≡ length ls → drop i ls ≡ getD ls i none ∷ []
-  one h = from (omega (arith, h)) ∙ ap (λ (x : List Layer). getD ls i none ∷ x) (drop-of-length-le ls {i = suc i} (omega (arith, h)))
-
   pub layer-taken : suc i < length ls → (p : ℕ)
       → discountSum (drop i ls) p
       ≡ min p (getD ls i none .width) * getD ls i none .rate + discountSum (drop (suc i) ls) (p - getD ls i none .width)
@@ -85,9 +81,6 @@ module _ (ls : List Layer) (i : ℕ) (none : Layer) where
       ap (λ (x : List Layer). discountSum x p) (two h)
       ∙ ap (λ (x : List Layer). min p (getD ls i none .width) * getD ls i none .rate + discountSum x (p - getD ls i none .width))
       (sym (drop-cons ls (suc i) none h))
-
-  pub last-taken : suc i ≡ length ls → (p : ℕ) → discountSum (drop i ls) p ≡ p * getD ls i none .rate
-  last-taken h p = ap (λ (x : List Layer). discountSum x p) (one h)
 
   pub rate-asked : i < length ls → ratesPass (drop i ls) ≡ leb (getD ls i none .rate) mostRate && ratesPass (drop (suc i) ls)
   rate-asked h = ap ratesPass (from h)
@@ -97,6 +90,3 @@ module _ (ls : List Layer) (i : ℕ) (none : Layer) where
   width-asked h =
       ap widthsPass (two h)
       ∙ ap (λ (x : List Layer). leb 1 (getD ls i none .width) && widthsPass x) (sym (drop-cons ls (suc i) none h))
-
-  pub last-passes : suc i ≡ length ls → widthsPass (drop i ls) ≡ true
-  last-passes h = ap widthsPass (one h)

@@ -1,9 +1,8 @@
 -- The difference of two numbers of 32 bits fits 64, signed. Assumes nothing.
-use mathlib.Core.Path.{_≡_, _∙_}
+use mathlib.Core.Path.{_∙_}
 use Prim.Native.Nat.{_^_, _<_}
 use native.Mathlib.Omega.{arith}
 use borrow.Author.Needs.{needs}
-use lib.IntN.{pos, _-ℤ_}
 use mir.Syntax.{w64}
 use mir.Facts.{toZ-pos, toZ-ofZ}
 use Rattle.guaranteed.proofs.Differencing.{difference-fits}

@@ -1,6 +1,6 @@
 -- The invariant: the differences so far are put and summed. The measure is the differences to come. Assumes nothing.
 use mathlib.Core.Path.{_≡_, sym, ap, _∙_, subst}
-use Prim.Native.Nat.{ℕ, _+_, _-_, _<_}
+use Prim.Native.Nat.{ℕ, _+_, _-_}
 use native.Mathlib.Omega.{arith}
 use borrow.Author.Needs.{needs}
 use lib.IntN.{ℤ, pos, _-ℤ_}

@@ -1,9 +1,7 @@
 -- The buffer of premiums, then that of differences. Assumes nothing.
-use mathlib.Core.Path.{_≡_, sym}
+use mathlib.Core.Path.{sym}
 use mathlib.Core.List.{[]}
-use Prim.Native.Nat.{_*_, _≤_}
 use native.Mathlib.Omega.{arith}
-use borrow.Author.Needs.{needs}
 use borrow.Author.Tests.{le-leb, lt-leb}
 use Rattle.plan.proofs.Tests.{and-yes, and-first-no, and-second-no}
 use Rattle.plan.proofs.Questions.{goes-on, stops}

@@ -1,7 +1,7 @@
 -- The call's answer, with the lent numbers set where there is one. Assumes nothing.
 use mathlib.Core.Path.{_≡_, sym, subst}
 use mathlib.Core.List.{List}
-use Prim.Native.Nat.{ℕ, _^_, _<_}
+use Prim.Native.Nat.{_^_, _<_}
 use borrow.Author.Needs.{needs}
 use lib.IntN.{ℤ}
 use lib.Signed.{mag}

@@ -1,10 +1,10 @@
 -- Question 16, then 17. Assumes nothing.
 use mathlib.Core.Path.{_≡_, sym, _∙_}
-use mathlib.Core.Bool.{Bool, true, false}
+use mathlib.Core.Bool.{true}
 use mathlib.Core.List.{List, [], _∷_}
 use borrow.Author.Needs.{needs}
 use borrow.Author.Tests.{not-true, not-false}
-use Rattle.plan.specs.Discount.{Layer, ratesPass, widthsPass}
+use Rattle.plan.specs.Discount.{Layer, ratesPass}
 use Rattle.plan.specs.Comparison.{question17}
 use Rattle.plan.proofs.Questions.{goes-on, stops}
 use Rattle.discount.specs.Schedules.{layersOf}
