@@ -176,6 +176,19 @@ pub fn largest() -> Sample {
     }
 }
 
+/// Known groups that are rated: the papers' cases and the largest group.
+pub fn rated_groups() -> [Sample; 7] {
+    [
+        four_risks(),
+        ten_risks(),
+        one_claim_of_one(3),
+        one_claim_of_one(2),
+        two_risks_of_ten(1_000),
+        crossed_marks(1),
+        largest(),
+    ]
+}
+
 /// A schedule from its rows of width and rate.
 pub fn schedule(rows: [(u32, u32); 4]) -> [Layer; 4] {
     rows.map(|(width, rate)| Layer { width, rate })

@@ -2,10 +2,7 @@
 //! times 10,000,000 × n.
 
 use retro_tests::generator::Random;
-use retro_tests::samples::{
-    crossed_marks, four_risks, largest, one_claim_of_one, ten_risks, two_risks_of_ten, Sample,
-    AMPLE,
-};
+use retro_tests::samples::{rated_groups, Sample, AMPLE};
 use retro_tests::second_rater::{rate, Rated};
 
 /// SL and each K of a group, from its values by steps 1 to 3.
@@ -103,15 +100,7 @@ fn check(sample: &Sample, rated: &Rated, random: &mut Random) {
 #[test]
 fn known_groups_balance() {
     let mut random = Random::new(0x5eed_0005);
-    for sample in [
-        four_risks(),
-        ten_risks(),
-        one_claim_of_one(3),
-        one_claim_of_one(2),
-        two_risks_of_ten(1_000),
-        crossed_marks(1),
-        largest(),
-    ] {
+    for sample in rated_groups() {
         let rated = rate(&sample.file(), AMPLE).unwrap();
         check(&sample, &rated, &mut random);
     }

@@ -5,8 +5,8 @@ use retro_tests::generator::{
     set, Random, CONVERSION, EDITION, MINIMUM_MARK, RISKS, STANDARD_PREMIUM, TAX,
 };
 use retro_tests::samples::{
-    crossed_marks, four_risks, largest, one_claim_of_one, one_risk, schedule, stock, ten_risks,
-    two_risks_of_ten, AMPLE,
+    crossed_marks, four_risks, largest, one_claim_of_one, one_risk, rated_groups, schedule, stock,
+    ten_risks, two_risks_of_ten, AMPLE,
 };
 use retro_tests::second_rater::{guaranteed, rate, Guaranteed, Layer};
 
@@ -596,15 +596,7 @@ fn differences_add_to_billed_less_guaranteed_costs() {
 
 #[test]
 fn rated_is_what_rate_gives() {
-    for sample in [
-        four_risks(),
-        ten_risks(),
-        one_claim_of_one(3),
-        one_claim_of_one(2),
-        two_risks_of_ten(1_000),
-        crossed_marks(1),
-        largest(),
-    ] {
+    for sample in rated_groups() {
         let file = sample.file();
         let given = with_ample_room(&file, &stock()).unwrap();
         assert_eq!(Ok(given.rated), rate(&file, AMPLE));
