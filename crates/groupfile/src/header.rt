@@ -1,4 +1,4 @@
-// The header of a group file: its eleven fields, taken one after another, and questions 3 to 7 of their values.
+// The header of a group file: its eleven fields, taken one after another, and questions 3 to 7 of their values, with 18 after 6.
 ghost use mathlib.Core.Path.{_≡_};
 ghost use Rattle.plan.specs.Questions.{firstNo, headerQuestions};
 ghost use Rattle.plan.specs.Header.{headerBits};
@@ -135,7 +135,7 @@ fn in_range(low: u32, x: u32, high: u32) -> bool
     low <= x && x <= high
 }
 
-// Questions 3 to 7 of header values and the number of risks.
+// Questions 3 to 6, 18 and 7 of header values and the number of risks.
 pub fn header_verdict(h: Header, risks: usize) -> Verdict
     ensures { λ r. ⌜ verdictIs r ≡ firstNo (headerQuestions (headerIs h) risks) ⌝ }
 {
@@ -148,11 +148,16 @@ pub fn header_verdict(h: Header, risks: usize) -> Verdict
     if !in_range(10000, h.tax, 20000) {
         return Verdict::Failed(5);
     }
-    if h.maximum_mark > MOST_MARK {
+    let maximum = h.maximum_mark;
+    let minimum = h.minimum_mark;
+    if maximum > MOST_MARK {
         return Verdict::Failed(6);
     }
-    if h.minimum_mark > MOST_MARK {
+    if minimum > MOST_MARK {
         return Verdict::Failed(6);
+    }
+    if minimum > maximum {
+        return Verdict::Failed(18);
     }
     if risks < 1 {
         return Verdict::Failed(7);

@@ -1,5 +1,5 @@
-// A file opened: questions 1 to 9, with all that Read, Rate and Table take from it. Every call on a file passes this gate first; it
-// needs no buffer.
+// A file opened: questions 1 to 9, 18 in its place among them, with all that Read, Rate and Table take from it. Every call on a
+// file passes this gate first; it needs no buffer.
 ghost use mathlib.Core.Path.{_≡_};
 ghost use Rattle.plan.specs.File.{endOf};
 ghost use Rattle.plan.specs.Questions.{firstNo, endQuestions, fileQuestions};

@@ -82,16 +82,6 @@ abbrev tensFile1000 : List ℕ
 tensFile1000 =
     16 ∷ 0 ∷ 0 ∷ 0 ∷ 0 ∷ 4 ∷ 0 ∷ 0 ∷ 31 ∷ 66 ∷ 113 ∷ 13 ∷ 220 ∷ 0 ∷ 0 ∷ 4 ∷ 4 ∷ 0 ∷ 2 ∷ 129 ∷ 0 ∷ 0 ∷ 160 ∷ []
 
--- 'Loss ratio marks 0.900 and 0.950, c 1.000', with P
-abbrev crossing : ℕ → Group
-crossing p = group (header 0 p 0 1000 10000 0 900 950) (1 ∷ []) (1 ∷ [])
-
-abbrev crossingFile1 : List ℕ
-crossingFile1 = 16 ∷ 0 ∷ 0 ∷ 0 ∷ 0 ∷ 4 ∷ 0 ∷ 0 ∷ 31 ∷ 66 ∷ 113 ∷ 0 ∷ 225 ∷ 7 ∷ 108 ∷ 2 ∷ 4 ∷ 0 ∷ 0 ∷ 64 ∷ []
-
-abbrev crossingFile1000 : List ℕ
-crossingFile1000 = 16 ∷ 0 ∷ 0 ∷ 0 ∷ 15 ∷ 160 ∷ 0 ∷ 0 ∷ 31 ∷ 66 ∷ 113 ∷ 0 ∷ 225 ∷ 7 ∷ 108 ∷ 2 ∷ 4 ∷ 0 ∷ 0 ∷ 64 ∷ []
-
 -- 'With limit 5,000, claims of 5,000 and 5,001', and entry marks, which are ratios of limited losses
 abbrev limits : Group
 limits = group (header 5000 1 0 1000 10000 1 6000 0) (1 ∷ 1 ∷ []) (5000 ∷ 5001 ∷ [])
@@ -177,13 +167,6 @@ OtherCases =
     × (rate tensFile2000 8 ≡ refused 12)
     × Written (tens 1000) tensFile1000
     × (rate tensFile1000 8 ≡ rates 2 (pos 0) 0 20 (10 ∷ 10 ∷ []))
-    -- 'P 1 passes question 11 (both 0); P 1,000 is refused 11'
-    × Written (crossing 1) crossingFile1
-    × (lg crossingFile1 ≡ 0)
-    × (lh crossingFile1 ≡ 0)
-    × (rate crossingFile1 4 ≡ rates 1 (pos 1000) 0 1 (1 ∷ []))
-    × Written (crossing 1000) crossingFile1000
-    × (rate crossingFile1000 4 ≡ refused 11)
     -- 'both count 5,000'
     × Written limits limitsFile
     × (limiteds limitsFile ≡ 5000 ∷ 5000 ∷ [])
@@ -192,7 +175,7 @@ OtherCases =
 otherCases : OtherCases
 unfolding bytesOf number bit field claimAt pastClaim slotsOfClaim claimFits countAt firstClaim limitedOf LG LH SX SS ratable basicPremium excessCharge nearest billRounding billWith ratedOf rate totalWith taxedExpensesAndLosses
 otherCases =
-    (refl, refl, refl, refl, refl, refl, refl, refl, refl, refl, refl, refl, refl, refl, refl, refl, refl, refl, refl, refl, refl, refl)
+    (refl, refl, refl, refl, refl, refl, refl, refl, refl, refl, refl, refl, refl, refl, refl, refl)
 
 -- ---- document 02, job 1
 
@@ -246,6 +229,73 @@ guaranteedCase : GuaranteedCase
 unfolding number bit field claimAt pastClaim countAt firstClaim limitedOf LG LH SX SS ratable basicPremium excessCharge nearest billRounding billWith ratedOf discount guaranteedCost comparisonOf compare
 guaranteedCase = (refl, refl, refl, refl, refl, refl, refl, refl, refl, refl, refl, refl, refl, refl, refl)
 
+-- ---- document 02, job 2
+
+-- one risk with one claim of 1 and c 1.000, with P, the mark kind and the two marks
+abbrev marked : ℕ → ℕ → ℕ → ℕ → Group
+marked p k g h = group (header 0 p 0 1000 10000 k g h) (1 ∷ []) (1 ∷ [])
+
+-- document 01's 'Loss ratio marks 0.900 and 0.950, c 1.000', with P
+abbrev crossing : ℕ → Group
+crossing p = marked p 0 900 950
+
+abbrev crossingFile1 : List ℕ
+crossingFile1 = 16 ∷ 0 ∷ 0 ∷ 0 ∷ 0 ∷ 4 ∷ 0 ∷ 0 ∷ 31 ∷ 66 ∷ 113 ∷ 0 ∷ 225 ∷ 7 ∷ 108 ∷ 2 ∷ 4 ∷ 0 ∷ 0 ∷ 64 ∷ []
+
+abbrev crossingFile1000 : List ℕ
+crossingFile1000 = 16 ∷ 0 ∷ 0 ∷ 0 ∷ 15 ∷ 160 ∷ 0 ∷ 0 ∷ 31 ∷ 66 ∷ 113 ∷ 0 ∷ 225 ∷ 7 ∷ 108 ∷ 2 ∷ 4 ∷ 0 ∷ 0 ∷ 64 ∷ []
+
+-- P 1 with entry ratio marks 0.900 and 0.950, and with loss ratio marks 0.950 and 0.950
+abbrev entryFile : List ℕ
+entryFile = 16 ∷ 0 ∷ 0 ∷ 0 ∷ 0 ∷ 4 ∷ 0 ∷ 0 ∷ 31 ∷ 66 ∷ 113 ∷ 8 ∷ 225 ∷ 7 ∷ 108 ∷ 2 ∷ 4 ∷ 0 ∷ 0 ∷ 64 ∷ []
+
+abbrev equalFile : List ℕ
+equalFile = 16 ∷ 0 ∷ 0 ∷ 0 ∷ 0 ∷ 4 ∷ 0 ∷ 0 ∷ 31 ∷ 66 ∷ 113 ∷ 0 ∷ 237 ∷ 135 ∷ 108 ∷ 2 ∷ 4 ∷ 0 ∷ 0 ∷ 64 ∷ []
+
+-- P 1 with loss ratio marks 0.900 and 6.001, and with 0.900 and 0.950 and no risks
+abbrev aboveFile : List ℕ
+aboveFile = 16 ∷ 0 ∷ 0 ∷ 0 ∷ 0 ∷ 4 ∷ 0 ∷ 0 ∷ 31 ∷ 66 ∷ 113 ∷ 0 ∷ 225 ∷ 46 ∷ 226 ∷ 2 ∷ 4 ∷ 0 ∷ 0 ∷ 64 ∷ []
+
+abbrev noRisksFile : List ℕ
+noRisksFile = 16 ∷ 0 ∷ 0 ∷ 0 ∷ 0 ∷ 4 ∷ 0 ∷ 0 ∷ 31 ∷ 66 ∷ 113 ∷ 0 ∷ 225 ∷ 7 ∷ 108 ∷ 0 ∷ []
+
+abbrev MarksCase : Type 0
+MarksCase =
+    -- 'The P 1 example of document 01 is refused from now on': its marks are 0 dollars both
+    Written (crossing 1) crossingFile1
+    × (lg crossingFile1 ≡ 0)
+    × (lh crossingFile1 ≡ 0)
+    × (rate crossingFile1 4 ≡ refused 18)
+    -- 'and the P 1,000 one gives 18 in place of 11'
+    × Written (crossing 1000) crossingFile1000
+    × (lg crossingFile1000 ≡ 900)
+    × (lh crossingFile1000 ≡ 950)
+    × (rate crossingFile1000 4 ≡ refused 18)
+    -- 'in Rate, Read, Table and Write', and in job 1's call, which opens a file as Rate does
+    × (read crossingFile1 1 1 ≡ refused 18)
+    × (table crossingFile1 100 ≡ refused 18)
+    × (write (crossing 1) 20 ≡ refused 18)
+    × (compare crossingFile1 (stock 0) 4 1 ≡ refused 18)
+    -- 'as written', whatever the mark kind
+    × Written (marked 1 1 900 950) entryFile
+    × (rate entryFile 4 ≡ refused 18)
+    -- equal marks pass, and are rated, read and written
+    × (rate equalFile 4 ≡ rates 1 (pos 1000) 0 1 (1 ∷ []))
+    × (read equalFile 1 1 ≡ given (marked 1 0 950 950))
+    × (write (marked 1 0 950 950) 20 ≡ given equalFile)
+    -- 'after 6 and before 7'
+    × Written (marked 1 0 900 6001) aboveFile
+    × (rate aboveFile 4 ≡ refused 6)
+    × (write (marked 1 0 900 6001) 20 ≡ refused 6)
+    × Written (group (crossing 1 .header) [] []) noRisksFile
+    × (rate noRisksFile 0 ≡ refused 18)
+    × (write (group (crossing 1 .header) [] []) 16 ≡ refused 18)
+
+marksCase : MarksCase
+unfolding bytesOf number bit field claimAt pastClaim slotsOfClaim claimFits countAt firstClaim limitedOf LG LH SX SS ratable basicPremium excessCharge nearest billRounding billWith ratedOf rate table read write compare
+marksCase =
+    (refl, refl, refl, refl, refl, refl, refl, refl, refl, refl, refl, refl, refl, refl, refl, refl, refl, refl, refl, refl, refl, refl, refl)
+
 -- all of them: 'gathered as one checked list'
-pub provedCases : FourCase × TableCase × OtherCases × GuaranteedCase
-provedCases = (fourCase, tableCase, otherCases, guaranteedCase)
+pub provedCases : FourCase × TableCase × OtherCases × GuaranteedCase × MarksCase
+provedCases = (fourCase, tableCase, otherCases, guaranteedCase, marksCase)

@@ -1,6 +1,7 @@
 -- Laws of the questions. The first No of a gate and a list that goes on from it is the gate's, else that of the rest; where all
 -- are passed, the answer looked up by any number that is asked is Yes. So a gate's Yes gives the facts that its questions ask
--- for, and those facts give its Yes: each question has a line of its own in either direction. Assumes nothing.
+-- for, and those facts give its Yes: each question has a line of its own in either direction. Leaving out a question that is
+-- answered Yes changes no first No. A range of questions, as 1 to 9, has 18 in its place, after 6 and before 7. Assumes nothing.
 use mathlib.Core.Path.{_≡_, refl, _∙_, sym, ap}
 use mathlib.Core.Bool.{Bool, true, false, cond, _&&_, _||_}
 use mathlib.Core.List.{List, [], _∷_, _++_}
@@ -29,12 +30,13 @@ abbrev pub numbers : List Question → List ℕ
 numbers [] = []
 numbers (ask k b ∷ qs) = k ∷ numbers qs
 
--- 'Rate asks 1 to 13. Table asks 1 to 10, then 14. Read asks 1 to 9, then 13. Write asks 3 to 7, then 15, then 13.'
+-- 'Rate asks 1 to 13. Table asks 1 to 10, then 14. Read asks 1 to 9, then 13. Write asks 3 to 7, then 15, then 13.' And document 02,
+-- job 2: '18 .., after 6 and before 7, in Rate, Read, Table and Write'
 asked-in-order : (s : List ℕ) (room r countsRoom claimsRoom : ℕ) (h : Header) (counts claims : List ℕ)
-    → (numbers (rateQuestions s room) ≡ 1 ∷ 2 ∷ 3 ∷ 4 ∷ 5 ∷ 6 ∷ 7 ∷ 8 ∷ 9 ∷ 10 ∷ 11 ∷ 12 ∷ 13 ∷ [])
-    × (numbers (tableQuestions s r) ≡ 1 ∷ 2 ∷ 3 ∷ 4 ∷ 5 ∷ 6 ∷ 7 ∷ 8 ∷ 9 ∷ 10 ∷ 14 ∷ [])
-    × (numbers (readQuestions s countsRoom claimsRoom) ≡ 1 ∷ 2 ∷ 3 ∷ 4 ∷ 5 ∷ 6 ∷ 7 ∷ 8 ∷ 9 ∷ 13 ∷ [])
-    × (numbers (writeQuestions h counts claims room) ≡ 3 ∷ 4 ∷ 5 ∷ 6 ∷ 7 ∷ 15 ∷ 13 ∷ [])
+    → (numbers (rateQuestions s room) ≡ 1 ∷ 2 ∷ 3 ∷ 4 ∷ 5 ∷ 6 ∷ 18 ∷ 7 ∷ 8 ∷ 9 ∷ 10 ∷ 11 ∷ 12 ∷ 13 ∷ [])
+    × (numbers (tableQuestions s r) ≡ 1 ∷ 2 ∷ 3 ∷ 4 ∷ 5 ∷ 6 ∷ 18 ∷ 7 ∷ 8 ∷ 9 ∷ 10 ∷ 14 ∷ [])
+    × (numbers (readQuestions s countsRoom claimsRoom) ≡ 1 ∷ 2 ∷ 3 ∷ 4 ∷ 5 ∷ 6 ∷ 18 ∷ 7 ∷ 8 ∷ 9 ∷ 13 ∷ [])
+    × (numbers (writeQuestions h counts claims room) ≡ 3 ∷ 4 ∷ 5 ∷ 6 ∷ 18 ∷ 7 ∷ 15 ∷ 13 ∷ [])
 asked-in-order s room r countsRoom claimsRoom h counts claims = (refl, refl, refl, refl)
 
 -- ---- one question
@@ -90,6 +92,42 @@ yes-to k [] a e = a
 yes-to k (ask n true ∷ qs) a e = found (eqb n k) (asks k qs) (answerTo k qs) (λ h. yes-to k qs h e) a
 yes-to k (ask n false ∷ qs) a e = cc
 
+-- ---- a question left out of a list
+
+-- the list without the question of a number
+abbrev pub without : ℕ → List Question → List Question
+without k [] = []
+without k (ask n b ∷ qs) = cond (eqb n k) (without k qs) (ask n b ∷ without k qs)
+
+-- whether the question of a number is answered Yes, wherever it is asked
+abbrev pub answersYes : ℕ → List Question → Bool
+answersYes k [] = true
+answersYes k (ask n b ∷ qs) = cond (eqb n k) b true && answersYes k qs
+
+passed-over : (t b later : Bool) (n : ℕ) (rest qs : List Question) → (cond t b true && later) ≡ true → firstNo rest ≡ firstNo qs
+    → firstNo (cond t rest (ask n b ∷ rest)) ≡ firstNo (ask n b ∷ qs)
+passed-over true true later n rest qs e h = h
+passed-over true false later n rest qs e h = cc
+passed-over false true later n rest qs e h = h
+passed-over false false later n rest qs e h = refl
+
+-- where it is answered Yes, leaving it out changes no first No
+pub left-out : (k : ℕ) (qs : List Question) → answersYes k qs ≡ true → firstNo (without k qs) ≡ firstNo qs
+left-out k [] e = refl
+left-out k (ask n b ∷ qs) e =
+    passed-over (eqb n k) b (answersYes k qs) n (without k qs) qs e
+    (left-out k qs (both (cond (eqb n k) b true) (answersYes k qs) e .1))
+
+-- as it is in a list that passes
+pub passed-yes : (k : ℕ) (qs : List Question) → firstNo qs ≡ passed → answersYes k qs ≡ true
+passed-yes k [] e = refl
+passed-yes k (ask n true ∷ qs) e = and-yes (either (eqb n k)) (passed-yes k qs e)
+  where
+    either : (t : Bool) → cond t true true ≡ true
+    either true = refl
+    either false = refl
+passed-yes k (ask n false ∷ qs) e = cc
+
 -- ---- what is given is what the questions passed
 
 pub given-passed : {A : Type 0} (v : Verdict) (a b : A) → answer v a ≡ given b → (v ≡ passed) × (a ≡ b)
@@ -120,6 +158,7 @@ header-sound h n e =
       tax-most = leb-true _ _ (five .1);
       maximum = leb-true _ _ (six .0);
       minimum = leb-true _ _ (six .1);
+      marks-in-order = leb-true _ _ (yes-to 18 qs refl e);
       risks = leb-true _ _ (yes-to 7 qs refl e);
     }
 
@@ -133,6 +172,7 @@ header-passes h n f =
       le-leb _ _ (f .tax-most),
       le-leb _ _ (f .maximum),
       le-leb _ _ (f .minimum),
+      le-leb _ _ (f .marks-in-order),
       le-leb _ _ (f .risks),
     )
 

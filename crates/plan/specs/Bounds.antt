@@ -8,7 +8,7 @@ use Rattle.plan.specs.Header.{Header, standardPremiumField, expenseField
 use Rattle.plan.specs.Losses.{Losses, SL, SA}
 use Rattle.plan.specs.Premium.{Terms}
 
--- questions 3 to 7 as facts
+-- questions 3 to 7, with 18 in its place, as facts
 pub record HeaderSound (h : Header) (n : ℕ) : Type 0 where
   -- 3
   pub premium : 1 ≤ h .standardPremium
@@ -21,6 +21,8 @@ pub record HeaderSound (h : Header) (n : ℕ) : Type 0 where
   -- 6
   pub maximum : h .maximumMark ≤ mostMark
   pub minimum : h .minimumMark ≤ mostMark
+  -- 18
+  pub marks-in-order : h .minimumMark ≤ h .maximumMark
   -- 7
   pub risks : 1 ≤ n
 

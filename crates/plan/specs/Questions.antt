@@ -1,5 +1,5 @@
 -- 'Asked in this order. The first No is the result, as that number and nothing else, and no lent byte or number changes. No
--- refusal has another cause.' One definition a question; each call's list is made of their names.
+-- refusal has another cause.' One definition a question; each call's list is made of their names. 18 is document 02's, job 2.
 use mathlib.Core.Bool.{Bool, true, false, _&&_}
 use mathlib.Core.List.{List, [], _∷_, _++_}
 use Prim.Native.Nat.{ℕ, _*_}
@@ -67,6 +67,10 @@ question5 h = ask 5 (leb 10000 (h .tax) && leb (h .tax) 20000)
 abbrev pub question6 : Header → Question
 question6 h = ask 6 (leb (h .maximumMark) mostMark && leb (h .minimumMark) mostMark)
 
+-- job 2: 'The minimum mark may not exceed the maximum mark as written': in thousandths, whatever the mark kind. Equal marks pass
+abbrev pub question18 : Header → Question
+question18 h = ask 18 (leb (h .minimumMark) (h .maximumMark))
+
 -- 'Is n at least 1?'
 abbrev pub question7 : ℕ → Question
 question7 n = ask 7 (leb 1 n)
@@ -127,11 +131,12 @@ question15 h counts claims =
     && headerFits h
     && eqb (sum counts) (length claims))
 
--- ---- the gates: lists that calls have in common
+-- ---- the gates: lists that calls have in common. A range, as 1 to 9, has 18 in its place: 'Errors: 18 the minimum mark exceeds the
+-- maximum mark, after 6 and before 7, in Rate, Read, Table and Write'
 
 -- 3 to 7
 abbrev pub headerQuestions : Header → ℕ → List Question
-headerQuestions h n = question3 h ∷ question4 h ∷ question5 h ∷ question6 h ∷ question7 n ∷ []
+headerQuestions h n = question3 h ∷ question4 h ∷ question5 h ∷ question6 h ∷ question18 h ∷ question7 n ∷ []
 
 -- 8 and 9
 abbrev pub endQuestions : List ℕ → List Question

@@ -6,7 +6,7 @@ use Prim.Native.Nat.{ℕ}
 use borrow.Author.Tests.{not-true, not-false, le-leb, lt-leb}
 use borrow.Author.Needs.{needs}
 use Rattle.plan.specs.Header.{Header}
-use Rattle.plan.specs.Questions.{Question, firstNo, question4, question5, question6, question7, headerQuestions}
+use Rattle.plan.specs.Questions.{Question, firstNo, question4, question5, question6, question7, question18, headerQuestions}
 use Rattle.plan.proofs.Tests.{and-yes, and-first-no, and-second-no}
 use Rattle.plan.proofs.Questions.{goes-on, stops}
 use Rattle.group.specs.Values.{headerIs}
@@ -22,8 +22,11 @@ outside e h = sym e ∙ not-true _ h
 
 -- ---- what is left after each question
 
+abbrev after18 : Header → ℕ → List Question
+after18 h n = question7 n ∷ []
+
 abbrev after6 : Header → ℕ → List Question
-after6 h n = question7 n ∷ []
+after6 h n = question18 h ∷ after18 h n
 
 abbrev after5 : Header → ℕ → List Question
 after5 h n = question6 h ∷ after6 h n
@@ -46,7 +49,10 @@ abbrev start5 : tie.Else3 → tie.Start
 start5 c = start4 (c .before .before)
 
 abbrev start6 : tie.Else5 → tie.Start
-start6 c = start5 (c .before .before .before .before)
+start6 c = start5 (c .before .before)
+
+abbrev start18 : tie.Else6 → tie.Start
+start18 c = start6 (c .before)
 
 abbrev values : tie.Start → Header
 values s = headerIs (s .args .h)
@@ -72,9 +78,14 @@ past5 c =
 past6 : (c : tie.Else5) → Left (start6 c) after6
 past6 c =
     let s = start6 c in
-    let maximum = c .before .before in
-    past5 (maximum .before .before)
+    let maximum = c .before in
+    past5 (maximum .before)
     ∙ goes-on 6 (after6 (values s) (s .args .risks)) (and-yes (le-leb _ _ (maximum .if4 .left)) (le-leb _ _ (c .if5 .left)))
+
+past18 : (c : tie.Else6) → Left (start18 c) after18
+past18 c =
+    let s = start18 c in
+    past6 (c .before) ∙ goes-on 18 (after18 (values s) (s .args .risks)) (le-leb _ _ (c .if6 .left))
 
 -- ---- the needs
 
@@ -103,23 +114,29 @@ returns-3 c =
 
 returns-4 : tie.Need-returns-4
 returns-4 c =
-    let p = c .before .before in
+    let p = c .before in
     let s = start5 p in
     sym (past5 p ∙ stops 6 (after6 (values s) (s .args .risks)) (and-first-no _ (lt-leb _ _ (c .if4 .taken))))
 
 returns-5 : tie.Need-returns-5
 returns-5 c =
-    let maximum = c .before .before in
-    let p = maximum .before .before in
+    let maximum = c .before in
+    let p = maximum .before in
     let s = start5 p in
     sym (past5 p
     ∙ stops 6 (after6 (values s) (s .args .risks)) (and-second-no (le-leb _ _ (maximum .if4 .left)) (lt-leb _ _ (c .if5 .taken))))
 
 returns-6 : tie.Need-returns-6
-returns-6 c = sym (past6 (c .before) ∙ stops 7 [] (lt-leb _ _ (c .if6 .taken)))
+returns-6 c =
+    let p = c .before in
+    let s = start6 p in
+    sym (past6 p ∙ stops 18 (after18 (values s) (s .args .risks)) (lt-leb _ _ (c .if6 .taken)))
 
 returns-7 : tie.Need-returns-7
-returns-7 c = sym (past6 (c .before) ∙ goes-on 7 [] (le-leb _ _ (c .if6 .left)))
+returns-7 c = sym (past18 (c .before) ∙ stops 7 [] (lt-leb _ _ (c .if7 .taken)))
+
+returns-8 : tie.Need-returns-8
+returns-8 c = sym (past18 (c .before) ∙ goes-on 7 [] (le-leb _ _ (c .if7 .left)))
 
 pub header-verdict-spec : {M : Type 1} → statement M
 header-verdict-spec =
@@ -133,4 +150,5 @@ header-verdict-spec =
     returns-4
     returns-5
     returns-6
-    returns-7)
+    returns-7
+    returns-8)
