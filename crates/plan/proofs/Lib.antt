@@ -21,6 +21,7 @@ pub mod TableSizes
 pub mod Demand3
 pub mod Discounts
 pub mod Comparisons
+pub mod MarksAsWritten
 pub mod Decoded
 pub mod Writable
 pub mod RoundTrip
