@@ -37,12 +37,16 @@
  *         the file, and do the counts add to the number of claims?
  *     16  Are all four rates of the schedule at most 1,000 tenths of a percent?
  *     17  Are the first three widths of the schedule at least 1?
+ *     18  Is the minimum mark at most the maximum mark, both as written in thousandths?
  *
- *     retro_rate        asks 1 to 13
- *     retro_guaranteed  asks 1 to 13, then 16, then 17
- *     retro_table       asks 1 to 10, then 14
- *     retro_read        asks 1 to 9, then 13
- *     retro_write       asks 3 to 7, then 15, then 13
+ *     retro_rate        asks 1 to 6, 18, 7 to 13
+ *     retro_guaranteed  asks 1 to 6, 18, 7 to 13, then 16, then 17
+ *     retro_table       asks 1 to 6, 18, 7 to 10, then 14
+ *     retro_read        asks 1 to 6, 18, 7 to 9, then 13
+ *     retro_write       asks 3 to 6, 18, 7, then 15, then 13
+ *
+ * 11 is still asked, but no file can be made any more that is refused with it: marks that are in
+ * order as written are in order in whole dollars.
  *
  * Memory
  *
@@ -87,7 +91,7 @@ typedef struct retro_header {
     uint32_t mark_kind;        /* 0: the marks are loss ratios, to the standard premium;
                                   1: they are entry ratios, to the group's mean limited losses */
     uint32_t maximum_mark;     /* thousandths; at most 6,000 */
-    uint32_t minimum_mark;     /* thousandths; at most 6,000 */
+    uint32_t minimum_mark;     /* thousandths; at most the maximum mark */
 } retro_header;
 
 /* A layer of a premium discount schedule. */
@@ -211,7 +215,7 @@ retro_group retro_read(const uint8_t *file, size_t file_len, uint8_t *counts, si
  *             file keep their contents.
  *     length  gets the number of bytes of the file.
  *
- * The file may yet be refused with 10, 11 or 12 by retro_rate and retro_guaranteed, and with 10 by
+ * The file may yet be refused with 10 or 12 by retro_rate and retro_guaranteed, and with 10 by
  * retro_table.
  */
 uint32_t retro_write(retro_header header, const uint8_t *counts, size_t counts_len,

@@ -15,24 +15,23 @@
 
 enum { BILLED = 0, REFUSED = 1, UNREADABLE = 2, USAGE = 3, UNPRINTED = 4 };
 
-/* The question of each refusal, as retro.h numbers them. */
+/* The question of each refusal of retro_rate and retro_table, as retro.h numbers them. */
 static const char *const questions[] = {
-    NULL,
-    "Has the file at least 16 bytes?",
-    "Is the edition 1 and the spare bit 0?",
-    "Is the standard premium at least 1?",
-    "Is the loss conversion factor from 1.000 to 2.000?",
-    "Is the tax multiplier from 1.0000 to 2.0000?",
-    "Are both marks at most 6.000?",
-    "Is there at least one risk?",
-    "Does the file end with the byte that holds the last claim or count?",
-    "Are the fill bits of the last byte zero?",
-    "Is the sum of limited losses at least 1?",
-    "Is the minimum mark in whole dollars at most the maximum mark in whole dollars?",
-    "Is the balanced basic premium at least 0?",
-    "Is the buffer for the premiums long enough?",
-    "Is the entry ratio at most 6.00?",
-    "Do all values fit the file?",
+    [1] = "Has the file at least 16 bytes?",
+    [2] = "Is the edition 1 and the spare bit 0?",
+    [3] = "Is the standard premium at least 1?",
+    [4] = "Is the loss conversion factor from 1.000 to 2.000?",
+    [5] = "Is the tax multiplier from 1.0000 to 2.0000?",
+    [6] = "Are both marks at most 6.000?",
+    [7] = "Is there at least one risk?",
+    [8] = "Does the file end with the byte that holds the last claim or count?",
+    [9] = "Are the fill bits of the last byte zero?",
+    [10] = "Is the sum of limited losses at least 1?",
+    [11] = "Is the minimum mark in whole dollars at most the maximum mark in whole dollars?",
+    [12] = "Is the balanced basic premium at least 0?",
+    [13] = "Is the buffer for the premiums long enough?",
+    [14] = "Is the entry ratio at most 6.00?",
+    [18] = "Is the minimum mark at most the maximum mark?",
 };
 
 /* A file in memory. */

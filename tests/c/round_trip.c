@@ -74,18 +74,30 @@ static void fill_numbers(uint32_t *numbers, size_t len)
     }
 }
 
-/* retro_write into a room for the file and more, or into one that is a byte short. */
-static void write_group(const char *what, retro_header header, const uint8_t *counts,
-                        const uint32_t *claims, uint8_t file[LENGTH + MORE])
+/* retro_write that is refused with `question`, and leaves the length and every byte as they were. */
+static void refuse_group(const char *what, uint32_t question, retro_header header,
+                         const uint8_t *counts, const uint32_t *claims, size_t room,
+                         uint8_t file[LENGTH + MORE])
 {
     size_t length = UNTOUCHED;
     fill_bytes(file, LENGTH + MORE);
-    value("write into a byte too few",
-          retro_write(header, counts, RISKS, claims, CLAIMS, file, LENGTH - 1, &length), 13);
+    value(what, retro_write(header, counts, RISKS, claims, CLAIMS, file, room, &length), question);
     value("length after a refusal", length, UNTOUCHED);
     for (size_t k = 0; k < LENGTH + MORE; k++) {
         entry("byte after a refusal", k, file[k], UNTOUCHED);
     }
+}
+
+/* retro_write with a minimum mark above the maximum mark, into a room that is a byte short, and
+   into one for the file and more. */
+static void write_group(const char *what, retro_header header, const uint8_t *counts,
+                        const uint32_t *claims, uint8_t file[LENGTH + MORE])
+{
+    retro_header swapped = header;
+    swapped.minimum_mark = header.maximum_mark + 1;
+    refuse_group("write of swapped marks", 18, swapped, counts, claims, LENGTH + MORE, file);
+    refuse_group("write into a byte too few", 13, header, counts, claims, LENGTH - 1, file);
+    size_t length = UNTOUCHED;
     value(what, retro_write(header, counts, RISKS, claims, CLAIMS, file, LENGTH + MORE, &length),
           0);
     value("length", length, LENGTH);

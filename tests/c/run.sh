@@ -73,7 +73,7 @@ failure usage 3 billing
 failure usage 3 billing examples/four-risks.group examples/no-limit.group
 
 # Each refused example, with its number and question, as tests/c/refused.expected has them.
-for k in 01 02 03 04 05 06 07 08 09 10 11 12; do
+for k in 01 02 03 04 05 06 07 08 09 10 12 18; do
     ran 1 billing "examples/refused-$k.group"
     diff /dev/null "$built/printed"
     cat "$built/said"

@@ -326,3 +326,42 @@ pub fn write(
         )
     }
 }
+
+/// What Rate gives: n, M, Q and the sum billed, and the premiums.
+#[derive(Debug, PartialEq)]
+pub struct Rated {
+    pub numbers: (u32, u64, u64, u64),
+    pub premiums: Vec<u32>,
+}
+
+/// Rate of a file with a buffer of so many bytes. A refusal leaves everything as it was; else the
+/// bytes after the premiums keep their contents.
+pub fn rated(file: &[u8], room: usize) -> Result<Rated, u32> {
+    let mut buffer = vec![0xee; room];
+    let (mut n, mut basic, mut excess, mut billed) = (9, 9, 9, 9);
+    let answer = rate(
+        file,
+        &mut buffer,
+        &mut n,
+        &mut basic,
+        &mut excess,
+        &mut billed,
+    );
+    if answer != 0 {
+        assert_eq!((n, basic, excess, billed), (9, 9, 9, 9));
+        assert!(buffer.iter().all(|&byte| byte == 0xee));
+        return Err(answer);
+    }
+    let (written, rest) = buffer.split_at(4 * n as usize);
+    assert!(rest.iter().all(|&byte| byte == 0xee));
+    Ok(Rated {
+        numbers: (n, basic, excess, billed),
+        premiums: premiums_in(written),
+    })
+}
+
+/// The premiums in these bytes: four each, the most significant first.
+pub fn premiums_in(bytes: &[u8]) -> Vec<u32> {
+    let premium = |four: &[u8]| u32::from_be_bytes([four[0], four[1], four[2], four[3]]);
+    bytes.chunks(4).map(premium).collect()
+}

@@ -187,7 +187,7 @@ impl Random {
 
     // ---- groups
 
-    /// A group that passes questions 1 to 9.
+    /// A group that passes questions 1 to 9 and 18.
     pub fn group(&mut self) -> Sample {
         let mut risks = self.risks();
         let loss_limit = self.loss_limit(&risks);
@@ -266,7 +266,7 @@ impl Random {
         }
     }
 
-    /// Header values that pass questions 2 to 6.
+    /// Header values that pass questions 2 to 6 and 18.
     fn header(&mut self, loss_limit: u32, risks: &[Vec<u32>]) -> Header {
         let (maximum_mark, minimum_mark) = self.marks();
         let losses: u64 = risks.iter().flatten().map(|&claim| u64::from(claim)).sum();
@@ -302,19 +302,41 @@ impl Random {
         }
     }
 
-    /// The maximum and the minimum mark, mostly in their order.
+    /// The maximum and the minimum mark, in their order: equal, a thousandth apart, far apart, or
+    /// any two.
     fn marks(&mut self) -> (u32, u32) {
         let one = self.mark();
-        let other = match self.between(0, 7) {
+        let other = match self.between(0, 9) {
             0 => one,
-            1..=3 => self.between(0, 500),
+            1 if one < 6_000 => one + 1,
+            1 => one - 1,
+            2 => self.one_of(&[0, 6_000]),
+            3..=5 => self.between(0, 500),
             _ => self.mark(),
         };
-        if self.one_in(8) {
-            (one.min(other), one.max(other))
-        } else {
-            (one.max(other), one.min(other))
+        (one.max(other), one.min(other))
+    }
+
+    /// A maximum and a minimum mark above it: the marks of a group exchanged, those a thousandth
+    /// apart and 6.000 apart more often, and some above 6,000.
+    fn crossed_marks(&mut self) -> (u32, u32) {
+        let (larger, smaller) = match self.between(0, 8) {
+            0 => {
+                let smaller = self.one_of(&[6_000, 6_001, 8_190]);
+                (self.between(smaller + 1, 8_191), smaller)
+            }
+            1..=3 => {
+                let smaller = self.mark().min(5_999);
+                (smaller + 1, smaller)
+            }
+            4 => (6_000, 0),
+            _ => self.marks(),
+        };
+        if larger == smaller {
+            // equal marks are not crossed
+            return (0, larger.max(1));
         }
+        (smaller, larger)
     }
 
     fn mark(&mut self) -> u32 {
@@ -341,10 +363,14 @@ impl Random {
 
     // ---- files
 
-    /// A file: of a sound group, or with one or two kinds of damage done to it.
+    /// A file: of a sound group, or with its marks crossed, or with one or two kinds of damage done
+    /// to it, or both.
     pub fn file(&mut self) -> Vec<u8> {
         let sample = self.group();
         let mut file = sample.file();
+        if self.one_in(5) {
+            self.cross_the_marks(&mut file);
+        }
         if self.one_in(2) {
             self.damage(&mut file, &sample);
             if self.one_in(5) {
@@ -352,6 +378,18 @@ impl Random {
             }
         }
         file
+    }
+
+    /// Sets the minimum mark above the maximum mark, some as loss ratios of a premium of 1, where
+    /// they mostly come to the same dollars.
+    fn cross_the_marks(&mut self, file: &mut [u8]) {
+        let (maximum_mark, minimum_mark) = self.crossed_marks();
+        set(file, MAXIMUM_MARK, maximum_mark);
+        set(file, MINIMUM_MARK, minimum_mark);
+        if self.one_in(6) {
+            set(file, STANDARD_PREMIUM, 1);
+            set(file, MARK_KIND, 0);
+        }
     }
 
     fn damage(&mut self, file: &mut Vec<u8>, sample: &Sample) {
@@ -409,7 +447,7 @@ impl Random {
             return;
         }
         let any = self.word() as u32;
-        match self.between(0, 7) {
+        match self.between(0, 9) {
             0 => set(file, EDITION, self.one_of(&[0, 2, 3, 9, 15])),
             1 => set(file, SPARE, 1),
             2 => set(file, STANDARD_PREMIUM, 0),
@@ -417,7 +455,8 @@ impl Random {
             4 => set(file, TAX, self.one_of(&[0, 9_999, 20_001, 32_767])),
             5 => set(file, MAXIMUM_MARK, self.one_of(&[6_001, 8_191])),
             6 => set(file, MINIMUM_MARK, self.one_of(&[6_001, 8_191])),
-            _ => set(file, RISKS, self.one_of(&[0, 0, 1, 254, 255, any])),
+            7 | 8 => set(file, RISKS, 0),
+            _ => set(file, RISKS, self.one_of(&[1, 254, 255, any])),
         }
     }
 
@@ -451,6 +490,15 @@ impl Random {
             if self.one_in(16) {
                 set(file, field, self.word() as u32);
             }
+        }
+    }
+
+    /// An entry ratio for Table, some above 600.
+    pub fn entry_ratio(&mut self) -> u32 {
+        match self.between(0, 7) {
+            0 => self.one_of(&[0, 1, 99, 100, 101, 599, 600]),
+            1 => self.one_of(&[601, 602, 1_000, 65_536, 65_636, 1 << 31, u32::MAX]),
+            _ => self.between(0, 600),
         }
     }
 
@@ -561,9 +609,14 @@ impl Random {
 
     // ---- values for Write
 
-    /// Values for Write: those of a sound group, or with one or two of them spoiled.
+    /// Values for Write: those of a sound group, or with its marks crossed, or with one or two of
+    /// them spoiled, or both.
     pub fn values(&mut self) -> Values {
-        let sample = self.group();
+        let mut sample = self.group();
+        if self.one_in(5) {
+            let (maximum_mark, minimum_mark) = self.crossed_marks();
+            sample = sample.with_marks(maximum_mark, minimum_mark);
+        }
         let mut values = Values {
             header: sample.header,
             counts: sample.counts(),
@@ -590,15 +643,15 @@ impl Random {
 
     /// Gives one header value a number that fails its question or its width.
     fn spoil_the_header(&mut self, header: &mut Header) {
-        let (value, width) = match self.between(0, 7) {
-            0 => (&mut header.loss_limit, 20),
-            1 => (&mut header.standard_premium, 22),
-            2 => (&mut header.expense, 20),
-            3 => (&mut header.conversion, 11),
-            4 => (&mut header.tax, 15),
-            5 => (&mut header.mark_kind, 1),
-            6 => (&mut header.maximum_mark, 13),
-            _ => (&mut header.minimum_mark, 13),
+        let (value, width, outside): (_, _, &[u32]) = match self.between(0, 7) {
+            0 => (&mut header.loss_limit, 20, &[1 << 20]),
+            1 => (&mut header.standard_premium, 22, &[0]),
+            2 => (&mut header.expense, 20, &[1 << 20]),
+            3 => (&mut header.conversion, 11, &[0, 999, 2_001]),
+            4 => (&mut header.tax, 15, &[0, 9_999, 20_001]),
+            5 => (&mut header.mark_kind, 1, &[2]),
+            6 => (&mut header.maximum_mark, 13, &[6_001, 8_191]),
+            _ => (&mut header.minimum_mark, 13, &[6_001, 8_191]),
         };
         // past the width, some with the sound value in the field's own bits
         let past = [
@@ -609,11 +662,10 @@ impl Random {
             u32::MAX,
             self.word() as u32,
         ];
-        let outside = [0, 2, 999, 2_001, 6_001, 9_999, 20_001];
         *value = if self.one_in(2) {
             self.one_of(&past)
         } else {
-            self.one_of(&outside)
+            self.one_of(outside)
         };
     }
 

@@ -1,5 +1,6 @@
 //! The groups of document 01, the schedule of document 02 and other known groups.
 
+use crate::generator::{set, MAXIMUM_MARK, MINIMUM_MARK};
 use crate::second_rater::{self, Group, Header, Layer};
 
 /// A buffer's length that is enough for every call.
@@ -39,6 +40,23 @@ impl Sample {
     /// The group file. The group must have passed the questions of Write.
     pub fn file(&self) -> Vec<u8> {
         second_rater::write(&self.header, &self.counts(), &self.claims(), AMPLE).unwrap()
+    }
+
+    /// The same group with these marks.
+    pub fn with_marks(&self, maximum_mark: u32, minimum_mark: u32) -> Sample {
+        let mut sample = self.clone();
+        sample.header.maximum_mark = maximum_mark;
+        sample.header.minimum_mark = minimum_mark;
+        sample
+    }
+
+    /// The group file where Write may refuse the marks: that of marks of 0, in which they are then
+    /// set. The rest of the group must have passed the questions of Write.
+    pub fn file_of_any_marks(&self) -> Vec<u8> {
+        let mut file = self.with_marks(0, 0).file();
+        set(&mut file, MAXIMUM_MARK, self.header.maximum_mark);
+        set(&mut file, MINIMUM_MARK, self.header.minimum_mark);
+        file
     }
 }
 
@@ -118,7 +136,8 @@ pub fn two_risks_of_ten(conversion: u32) -> Sample {
     }
 }
 
-/// Loss ratio marks 0.900 and 0.950 with c 1.000. The document leaves the rest
+/// Loss ratio marks 0.900 and 0.950 with c 1.000, which job 2 of document 02
+/// refuses: no `file`, but a `file_of_any_marks`. The document leaves the rest
 /// open; here e is 0, T 1.0000, no limit, and one risk has one claim of 10.
 pub fn crossed_marks(standard_premium: u32) -> Sample {
     Sample {
@@ -177,14 +196,13 @@ pub fn largest() -> Sample {
 }
 
 /// Known groups that are rated: the papers' cases and the largest group.
-pub fn rated_groups() -> [Sample; 7] {
+pub fn rated_groups() -> [Sample; 6] {
     [
         four_risks(),
         ten_risks(),
         one_claim_of_one(3),
         one_claim_of_one(2),
         two_risks_of_ten(1_000),
-        crossed_marks(1),
         largest(),
     ]
 }

@@ -1,13 +1,13 @@
 //! A second rater: retrospective premiums balanced on a group's own Table M.
 //!
-//! It follows document 01, and job 1 of document 02 for guaranteed cost, and
-//! serves as the outside figure against which a production rater is compared.
-//! To share no mistake with such a rater it goes a deliberately different way:
-//! the whole file is expanded to one string of bits, every field is taken as a
-//! 128-bit whole number, all arithmetic is in `i128` and `u128`, every risk has
-//! its own `Vec` of claims, and each step of the documents is one plain
-//! function with the document's letter or words in its comment. Speed and
-//! memory are of no concern.
+//! It follows document 01, with job 1 of document 02 for guaranteed cost and job
+//! 2 for the order of the marks, and serves as the outside figure against which
+//! a production rater is compared. To share no mistake with such a rater it goes
+//! a deliberately different way: the whole file is expanded to one string of
+//! bits, every field is taken as a 128-bit whole number, all arithmetic is in
+//! `i128` and `u128`, every risk has its own `Vec` of claims, and each step of
+//! the documents is one plain function with the document's letter or words in
+//! its comment. Speed and memory are of no concern.
 //!
 //! Money is whole dollars. The calls answer `Err(k)` where the first question
 //! answered No is number `k` of the documents.
@@ -190,7 +190,7 @@ struct Fields {
     end: usize,
 }
 
-/// A file that passed questions 1 to 9.
+/// A file that passed questions 1 to 9 and 18.
 struct Opened {
     fields: Fields,
     /// The claims of each risk.
@@ -250,8 +250,16 @@ fn take_risks(bits: &[bool], start: usize, n: u128) -> (Vec<Vec<u128>>, usize) {
     (risks, place)
 }
 
-/// Questions 3 to 7, which a file and the values for Write both must pass.
-fn ask_3_to_7(
+/// Question 18, whose No is "the minimum mark exceeds the maximum mark":
+/// whether it does not. The marks are compared "as written", in thousandths
+/// whatever their kind.
+fn marks_pass(maximum_mark: u128, minimum_mark: u128) -> bool {
+    minimum_mark <= maximum_mark
+}
+
+/// Questions 3 to 6, then 18, then 7, which a file and the values for Write
+/// both must pass.
+fn ask_values(
     standard_premium: u128,
     conversion: u128,
     tax: u128,
@@ -271,13 +279,17 @@ fn ask_3_to_7(
     if maximum_mark > 6_000 || minimum_mark > 6_000 {
         return Err(6);
     }
+    if !marks_pass(maximum_mark, minimum_mark) {
+        return Err(18);
+    }
     if n < 1 {
         return Err(7);
     }
     Ok(())
 }
 
-/// Questions 1 to 9, which every call on a file asks first.
+/// Questions 1 to 9, with 18 between 6 and 7, which every call on a file asks
+/// first.
 fn open(file: &[u8]) -> Result<Opened, u32> {
     if file.len() < 16 {
         return Err(1);
@@ -287,7 +299,7 @@ fn open(file: &[u8]) -> Result<Opened, u32> {
     if fields.edition != 1 || fields.spare != 0 {
         return Err(2);
     }
-    ask_3_to_7(
+    ask_values(
         fields.standard_premium,
         fields.conversion,
         fields.tax,
@@ -507,8 +519,8 @@ fn billed_less_guaranteed(billed: u128, guaranteed: u128) -> i128 {
 // The calls
 // ---------------------------------------------------------------------------
 
-/// Rate: questions 1 to 13. `room` is the output buffer's length in bytes;
-/// each premium needs four.
+/// Rate: questions 1 to 13, with 18 between 6 and 7. `room` is the output
+/// buffer's length in bytes; each premium needs four.
 pub fn rate(file: &[u8], room: usize) -> Result<Rated, u32> {
     let Opened { fields, risks } = open(file)?;
     let n = fields.risks;
@@ -526,6 +538,7 @@ pub fn rate(file: &[u8], room: usize) -> Result<Rated, u32> {
 
     let maximum = mark_dollars(fields.maximum_mark, &fields, sum_limited);
     let minimum = mark_dollars(fields.minimum_mark, &fields, sum_limited);
+    // no file that passed 18 is refused here: rounding down keeps order
     if minimum > maximum {
         return Err(11);
     }
@@ -577,8 +590,8 @@ pub fn rate(file: &[u8], room: usize) -> Result<Rated, u32> {
     })
 }
 
-/// Guaranteed cost beside the retro premium: Rate's questions 1 to 13, where 13
-/// is of both buffers, then 16, then 17. `premiums_room` is the length of the
+/// Guaranteed cost beside the retro premium: Rate's questions, where 13 is of
+/// both buffers, then 16, then 17. `premiums_room` is the length of the
 /// premiums buffer in bytes, four for each risk; `differences_room` is that of
 /// the differences buffer in entries, one for each risk.
 pub fn guaranteed(
@@ -617,8 +630,8 @@ pub fn guaranteed(
     })
 }
 
-/// Table: questions 1 to 10, then 14. Gives the charge and the savings at the
-/// entry ratio `r` in hundredths, both in thousandths.
+/// Table: questions 1 to 10, with 18 between 6 and 7, then 14. Gives the charge
+/// and the savings at the entry ratio `r` in hundredths, both in thousandths.
 pub fn table(file: &[u8], r: u32) -> Result<(u128, u128), u32> {
     let Opened { fields, risks } = open(file)?;
     let n = fields.risks;
@@ -647,8 +660,8 @@ pub fn table(file: &[u8], r: u32) -> Result<(u128, u128), u32> {
     Ok((charge, savings))
 }
 
-/// Read: questions 1 to 9, then 13. The rooms are the lengths of the buffers
-/// for the claim counts and for the claims, in entries.
+/// Read: questions 1 to 9, with 18 between 6 and 7, then 13. The rooms are the
+/// lengths of the buffers for the claim counts and for the claims, in entries.
 pub fn read(file: &[u8], counts_room: usize, claims_room: usize) -> Result<Group, u32> {
     let Opened { fields, risks } = open(file)?;
     let mut counts = Vec::new();
@@ -701,10 +714,10 @@ fn all_fit(header: &Header, counts: &[u8], claims: &[u32]) -> bool {
     header_fits && n_fits && counts_fit && claims_fit && counted == claims.len() as u128
 }
 
-/// Write: questions 3 to 7, then 15, then 13. Gives the file's bytes; `room`
-/// is the output buffer's length in bytes.
+/// Write: questions 3 to 6, 18, 7, 15 and 13 in this order. Gives the file's
+/// bytes; `room` is the output buffer's length in bytes.
 pub fn write(header: &Header, counts: &[u8], claims: &[u32], room: usize) -> Result<Vec<u8>, u32> {
-    ask_3_to_7(
+    ask_values(
         header.standard_premium.into(),
         header.conversion.into(),
         header.tax.into(),

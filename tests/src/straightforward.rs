@@ -84,6 +84,9 @@ pub fn rate(file: &[u8], premiums: &mut [u8]) -> Result<Rated, u32> {
     if maximum_mark > 6_000 || minimum_mark > 6_000 {
         return Err(6);
     }
+    if minimum_mark > maximum_mark {
+        return Err(18);
+    }
     if risks < 1 {
         return Err(7);
     }

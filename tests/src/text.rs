@@ -2,8 +2,8 @@
 //!
 //! The first line has the eight header values in file order. Then each risk has a line with its
 //! claims, or with `-` alone where it has none. Values are whole numbers in decimal digits with
-//! spaces between them. A blank line is a mistake wherever it stands: it could be a risk without
-//! claims, or nothing.
+//! spaces between them, and the minimum mark is at most the maximum mark. A blank line is a mistake
+//! wherever it stands: it could be a risk without claims, or nothing.
 
 use crate::samples::Sample;
 use crate::second_rater::{Header, MOST_CLAIMS_PER_RISK, MOST_RISKS};
@@ -149,6 +149,11 @@ fn parse_header(line: &str) -> Result<Header, Mistake> {
     }
     let [loss_limit, standard_premium, expense, conversion, tax, mark_kind, maximum_mark, minimum_mark] =
         numbers;
+    if minimum_mark > maximum_mark {
+        let what =
+            format!("{minimum_mark} is above the maximum mark of {maximum_mark} (thousandths)");
+        return Err(mistake(1, "minimum mark", what));
+    }
     Ok(Header {
         loss_limit,
         standard_premium,

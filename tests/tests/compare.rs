@@ -8,7 +8,9 @@
 //!     RETRO_FILES=5000000 RETRO_SEED=7 cargo test --offline --release --test compare -- generated
 
 use retro_tests::calls::{self, raw, Group, Numbers};
-use retro_tests::generator::{get, set, Field, Random, HEADER, RISKS, STANDARD_PREMIUM};
+use retro_tests::generator::{
+    get, set, Field, Random, HEADER, MINIMUM_MARK, RISKS, STANDARD_PREMIUM,
+};
 use retro_tests::guard::Sparse;
 use retro_tests::held_calls::{Call, Counts, HeldCalls, CALLS};
 use retro_tests::samples::{
@@ -145,12 +147,7 @@ fn compare_batches(
 fn compare_file(held_calls: &mut HeldCalls, random: &mut Random, file: &[u8]) {
     let (risks, claims) = sizes(file);
     held_calls.rate(file, random.room(4 * risks));
-    let entry_ratio = match random.between(0, 7) {
-        0 => random.one_of(&[0, 1, 99, 100, 101, 599, 600]),
-        1 => random.one_of(&[601, 602, 1_000, 65_536, 65_636, 1 << 31, u32::MAX]),
-        _ => random.between(0, 600),
-    };
-    held_calls.table(file, entry_ratio);
+    held_calls.table(file, random.entry_ratio());
     let counts_room = random.room(risks);
     let claims_room = random.room(claims);
     if held_calls.read(file, counts_room, claims_room) == 0 {
@@ -178,7 +175,7 @@ fn sizes(file: &[u8]) -> (usize, usize) {
     (risks, claims)
 }
 
-/// Known groups, of which some fall at questions 10, 11 and 12.
+/// Known groups, of which some fall at questions 10 and 12.
 fn known() -> Vec<Sample> {
     let mut no_losses = four_risks();
     no_losses.risks = vec![vec![0], vec![], vec![0, 0], vec![]];
@@ -193,11 +190,28 @@ fn known() -> Vec<Sample> {
         one_claim_of_one(255),
         two_risks_of_ten(1_000),
         two_risks_of_ten(2_000),
-        crossed_marks(1),
-        crossed_marks(1_000),
         no_losses,
         no_claims,
     ]
+}
+
+/// Known groups that fall at question 18: the examples of job 2 of document 02, and entry ratio
+/// marks a thousandth apart.
+fn crossed() -> Vec<Sample> {
+    vec![
+        crossed_marks(1),
+        crossed_marks(1_000),
+        one_claim_of_one(3).with_marks(999, 1_000),
+    ]
+}
+
+/// The files of the known groups, each with the question that it fails where its length is wrong:
+/// 8, or 18 before it.
+fn known_files() -> Vec<(Vec<u8>, u32)> {
+    let sound = known().into_iter().map(|sample| (sample.file(), 8));
+    let crossed = crossed().into_iter();
+    let crossed = crossed.map(|sample| (sample.file_of_any_marks(), 18));
+    sound.chain(crossed).collect()
 }
 
 /// Rate, Guaranteed, Table and Read of a file with room enough. Gives Read's answer.
@@ -212,11 +226,10 @@ fn all_calls(held_calls: &mut HeldCalls, file: &[u8]) -> u32 {
 #[test]
 fn each_prefix() {
     let mut held_calls = HeldCalls::new();
-    for sample in known() {
-        let file = sample.file();
+    for (file, question) in known_files() {
         for len in 0..file.len() {
             let answer = all_calls(&mut held_calls, &file[..len]);
-            assert_eq!(answer, if len < 16 { 1 } else { 8 });
+            assert_eq!(answer, if len < 16 { 1 } else { question });
         }
     }
     // the largest file at each length around its header and its end, and at others between
@@ -233,8 +246,7 @@ fn each_prefix() {
 #[test]
 fn each_bit() {
     let mut held_calls = HeldCalls::new();
-    for sample in known() {
-        let mut file = sample.file();
+    for (mut file, _) in known_files() {
         for bit in 0..8 * file.len() {
             file[bit / 8] ^= 0x80 >> (bit % 8);
             all_calls(&mut held_calls, &file);
@@ -246,12 +258,12 @@ fn each_bit() {
 #[test]
 fn bytes_added() {
     let mut held_calls = HeldCalls::new();
-    for sample in known() {
+    for (file, question) in known_files() {
         for added in [0, 1, 0x80, 0xff] {
-            let mut file = sample.file();
+            let mut file = file.clone();
             for _ in 0..40 {
                 file.push(added);
-                assert_eq!(all_calls(&mut held_calls, &file), 8);
+                assert_eq!(all_calls(&mut held_calls, &file), question);
             }
         }
     }
@@ -377,6 +389,13 @@ fn each_length_of_the_written_file() {
             assert_eq!(answer, if room < length { 13 } else { 0 });
         }
     }
+    for sample in crossed() {
+        let (counts, claims) = (sample.counts(), sample.claims());
+        for room in 0..=40 {
+            let answer = held_calls.write(&sample.header, &counts, &claims, room);
+            assert_eq!(answer, 18);
+        }
+    }
 }
 
 #[test]
@@ -432,7 +451,7 @@ fn write_of_each_header_value() {
             held_calls.write(&header, &counts, &claims, 34);
         }
     }
-    for answer in [0, 3, 4, 5, 6, 13, 15] {
+    for answer in [0, 3, 4, 5, 6, 18, 15, 13] {
         assert!(held_calls.given.of(Call::Write, answer) > 0, "{answer}");
     }
 }
@@ -565,8 +584,7 @@ fn mutable<T>(slice: &mut [T]) -> *mut T {
 fn null_pointers_where_the_count_is_0() {
     null_where_empty(&[], 0, 0);
     null_where_empty(&[], 4, 6);
-    for sample in known() {
-        let file = sample.file();
+    for (file, _) in known_files() {
         for (counts_room, claims_room) in [(0, 0), (0, 300), (300, 0), (300, 300)] {
             null_where_empty(&file, counts_room, claims_room);
         }
@@ -589,7 +607,7 @@ fn guaranteed_with_null_pointers_where_the_count_is_0() {
         guaranteed: 6,
         difference: 7,
     };
-    let files = known().into_iter().map(|sample| sample.file());
+    let files = known_files().into_iter().map(|(file, _)| file);
     for file in files.chain([vec![]]) {
         for (premiums_room, differences_room) in [(0, 0), (0, 300), (1_020, 0), (1_020, 300)] {
             let mut premiums = vec![8; premiums_room];
@@ -625,42 +643,43 @@ fn guaranteed_with_null_pointers_where_the_count_is_0() {
     }
 }
 
+/// Write with a null pointer for each slice whose count is 0.
+fn write_null_where_empty(header: &Header, counts: &[u8], claims: &[u32], room: usize) {
+    let mut file = vec![0xee; room];
+    let mut length = 77;
+    // SAFETY: each pointer is good for its count; a null pointer has count 0.
+    let answer = unsafe {
+        raw::retro_write(
+            (*header).into(),
+            pointer(counts),
+            counts.len(),
+            pointer(claims),
+            claims.len(),
+            mutable(&mut file),
+            room,
+            &mut length,
+        )
+    };
+    let mut expected = vec![0xee; room];
+    match second_rater::write(header, counts, claims, room) {
+        Err(question) => assert_eq!((answer, length), (question, 77)),
+        Ok(bytes) => {
+            assert_eq!((answer, length), (0, bytes.len()));
+            expected[..bytes.len()].copy_from_slice(&bytes);
+        }
+    }
+    assert_eq!(file, expected);
+}
+
 #[test]
 fn write_with_null_pointers_where_the_count_is_0() {
-    let header = four_risks().header;
-    let cases: [(&[u8], &[u32], usize); 6] = [
-        (&[], &[], 0),
-        (&[], &[], 40),
-        (&[0, 0], &[], 0),
-        (&[0, 0], &[], 40),
-        (&[1, 0], &[], 40),
-        (&[1, 0], &[9], 0),
-    ];
-    for (counts, claims, room) in cases {
-        let mut file = vec![0xee; room];
-        let mut length = 77;
-        // SAFETY: each pointer is good for its count; a null pointer has count 0.
-        let answer = unsafe {
-            raw::retro_write(
-                header.into(),
-                pointer(counts),
-                counts.len(),
-                pointer(claims),
-                claims.len(),
-                mutable(&mut file),
-                room,
-                &mut length,
-            )
-        };
-        let mut expected = vec![0xee; room];
-        match second_rater::write(&header, counts, claims, room) {
-            Err(question) => assert_eq!((answer, length), (question, 77)),
-            Ok(bytes) => {
-                assert_eq!((answer, length), (0, bytes.len()));
-                expected[..bytes.len()].copy_from_slice(&bytes);
-            }
-        }
-        assert_eq!(file, expected);
+    for header in [four_risks().header, crossed_marks(1).header] {
+        write_null_where_empty(&header, &[], &[], 0);
+        write_null_where_empty(&header, &[], &[], 40);
+        write_null_where_empty(&header, &[0, 0], &[], 0);
+        write_null_where_empty(&header, &[0, 0], &[], 40);
+        write_null_where_empty(&header, &[1, 0], &[], 40);
+        write_null_where_empty(&header, &[1, 0], &[9], 0);
     }
 }
 
@@ -685,6 +704,9 @@ fn files_as_long_as_the_address_space_has_room_for() {
         all(file, 2);
         file[..34].copy_from_slice(&four_risks().file());
         all(file, 8);
+        // a thousandth above the maximum mark
+        set(file, MINIMUM_MARK, 901);
+        all(file, 18);
         set(file, STANDARD_PREMIUM, 0);
         all(file, 3);
     }

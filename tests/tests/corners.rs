@@ -1,9 +1,28 @@
 //! The generator reaches the corners that the comparison is about, each many times.
 
-use retro_tests::generator::{bits, Quote, Random};
+use retro_tests::generator::{
+    bits, get, set, Quote, Random, Values, MARK_KIND, MAXIMUM_MARK, MINIMUM_MARK, RISKS,
+    STANDARD_PREMIUM,
+};
 use retro_tests::samples::{Sample, AMPLE};
 use retro_tests::second_rater::{self, Guaranteed};
 use std::collections::BTreeMap;
+
+/// The dollars of a mark.
+fn dollars(sample: &Sample, mark: u32) -> u64 {
+    let header = &sample.header;
+    let mark = u64::from(mark);
+    if header.mark_kind == 0 {
+        return mark * u64::from(header.standard_premium) / 1_000;
+    }
+    let limit = match header.loss_limit {
+        0 => u32::MAX,
+        limit => limit,
+    };
+    let claims = sample.claims().into_iter();
+    let limited: u64 = claims.map(|claim| u64::from(claim.min(limit))).sum();
+    mark * limited / (1_000 * sample.risks.len() as u64)
+}
 
 /// The corners at which a group lies.
 fn corners(sample: &Sample) -> Vec<&'static str> {
@@ -48,18 +67,33 @@ fn corners(sample: &Sample) -> Vec<&'static str> {
     at("T 2.0000", header.tax == 20_000);
     at("loss ratio marks", header.mark_kind == 0);
     at("entry ratio marks", header.mark_kind == 1);
-    at("maximum mark 0", header.maximum_mark == 0);
     at("maximum mark 6.000", header.maximum_mark == 6_000);
     at("minimum mark 0", header.minimum_mark == 0);
-    at("minimum mark 6.000", header.minimum_mark == 6_000);
-    at("equal marks", header.maximum_mark == header.minimum_mark);
+    let apart = header.maximum_mark - header.minimum_mark;
+    let loss_ratios = header.mark_kind == 0;
+    at("equal loss ratio marks", loss_ratios && apart == 0);
+    at("equal entry ratio marks", !loss_ratios && apart == 0);
+    at("equal marks of 0", header.maximum_mark == 0);
+    at("equal marks of 6.000", header.minimum_mark == 6_000);
+    at("marks a thousandth apart", apart == 1);
+    at("marks of 6.000 and 0", apart == 6_000);
     at("no fill bits", bits(n, claims.len()).is_multiple_of(8));
     match second_rater::rate(&sample.file(), AMPLE) {
         Err(10) => at("refused 10", true),
-        Err(11) => at("refused 11", true),
         Err(12) => at("refused 12", true),
         Err(question) => panic!("a sound group is refused {question}"),
         Ok(rated) => {
+            let marks = [header.maximum_mark, header.minimum_mark];
+            let [maximum, minimum] = marks.map(|mark| dollars(sample, mark));
+            let equal_dollars = apart > 0 && maximum == minimum;
+            at(
+                "loss ratio marks of equal dollars",
+                loss_ratios && equal_dollars,
+            );
+            at(
+                "entry ratio marks of equal dollars",
+                !loss_ratios && equal_dollars,
+            );
             at("basic 0", rated.basic == 0);
             at(
                 "basic below a dollar a risk",
@@ -96,7 +130,153 @@ fn each_corner_is_reached() {
             *reached.entry(corner).or_default() += 1;
         }
     }
-    assert_eq!(reached.len(), 34, "{reached:#?}");
+    assert_eq!(reached.len(), 38, "{reached:#?}");
+    assert!(reached.values().all(|&times| times >= 50), "{reached:#?}");
+}
+
+/// The corner of crossed marks with a fault of a question that is asked before 18.
+fn before_18(question: u32, maximum_mark: u32) -> String {
+    match question {
+        6 if maximum_mark > 6_000 => "6 and 18, both marks above".to_string(),
+        _ => format!("{question} and 18"),
+    }
+}
+
+/// The corners at which a minimum mark above the maximum mark lies, and the other faults of the
+/// file and of an entry ratio beside it.
+fn corners_of_file(file: &[u8], entry_ratio: u32) -> Vec<String> {
+    let (maximum_mark, minimum_mark) = (get(file, MAXIMUM_MARK), get(file, MINIMUM_MARK));
+    if minimum_mark <= maximum_mark {
+        return Vec::new();
+    }
+    let question = second_rater::read(file, AMPLE, AMPLE).unwrap_err();
+    if question != 18 {
+        return vec![before_18(question, maximum_mark)];
+    }
+
+    let kind = ["loss ratio", "entry ratio"][get(file, MARK_KIND) as usize];
+    let mut corners = vec![format!("{kind} marks")];
+    let mut at = |corner: &str, holds: bool| {
+        if holds {
+            corners.push(format!("{kind} marks, {corner}"));
+        }
+    };
+    at("a thousandth apart", minimum_mark - maximum_mark == 1);
+    at("6.000 apart", minimum_mark - maximum_mark == 6_000);
+    at("14", entry_ratio > 600);
+
+    // the other faults are those that remain with the marks exchanged
+    let mut exchanged = file.to_vec();
+    set(&mut exchanged, MAXIMUM_MARK, minimum_mark);
+    set(&mut exchanged, MINIMUM_MARK, maximum_mark);
+    let answer = second_rater::rate(&exchanged, AMPLE).err().unwrap_or(0);
+    match second_rater::read(&exchanged, AMPLE, AMPLE) {
+        Err(question) => at(&question.to_string(), true),
+        Ok(_) if answer == 10 => at("10", true),
+        Ok(group) => {
+            let sample = Sample::of(&group);
+            let equal_dollars = dollars(&sample, maximum_mark) == dollars(&sample, minimum_mark);
+            let on_1 = get(file, STANDARD_PREMIUM) == 1;
+            at("equal dollars", equal_dollars);
+            at("equal dollars, P 1", equal_dollars && on_1);
+            at("no other fault", equal_dollars && answer == 0);
+            // a negative basic of equal dollars is that of the file itself
+            at("12", equal_dollars && answer == 12);
+            at("above in dollars too", !equal_dollars);
+        }
+    }
+    corners
+}
+
+#[test]
+fn each_corner_of_crossed_marks_is_reached() {
+    let mut random = Random::new(1_968);
+    let mut reached: BTreeMap<String, u32> = BTreeMap::new();
+    for _ in 0..60_000 {
+        let file = random.file();
+        for corner in corners_of_file(&file, random.entry_ratio()) {
+            *reached.entry(corner).or_default() += 1;
+        }
+    }
+    // seven of a question before 18, and thirteen of each kind of marks
+    assert_eq!(reached.len(), 33, "{reached:#?}");
+    assert!(reached.values().all(|&times| times >= 50), "{reached:#?}");
+}
+
+/// The faults of values for Write beside a minimum mark above the maximum mark.
+fn corners_of_values(values: &Values, room: usize) -> Vec<String> {
+    let Values {
+        header,
+        counts,
+        claims,
+    } = values;
+    if header.minimum_mark <= header.maximum_mark {
+        return Vec::new();
+    }
+    let question = second_rater::write(header, counts, claims, AMPLE).unwrap_err();
+    if question != 18 {
+        return vec![before_18(question, header.maximum_mark)];
+    }
+
+    let mut corners = Vec::new();
+    let mut at = |corner: &str, holds: bool| {
+        if holds {
+            corners.push(corner.to_string());
+        }
+    };
+    let mut exchanged = *header;
+    exchanged.maximum_mark = header.minimum_mark;
+    exchanged.minimum_mark = header.maximum_mark;
+    match second_rater::write(&exchanged, counts, claims, AMPLE) {
+        Ok(file) => {
+            let enough = room >= file.len();
+            at(
+                "18 alone, loss ratio marks",
+                enough && header.mark_kind == 0,
+            );
+            at(
+                "18 alone, entry ratio marks",
+                enough && header.mark_kind == 1,
+            );
+            at("18 and 13", !enough);
+        }
+        Err(7) => {
+            at("18 and 7", claims.is_empty());
+            at("18, 7 and claims without counts", !claims.is_empty());
+        }
+        Err(_) => {
+            let counted: usize = counts.iter().map(|&count| usize::from(count)).sum();
+            at("18 and 256 counts or more", counts.len() > 255);
+            at(
+                "18 and a count above 63",
+                counts.iter().any(|&count| count > 63),
+            );
+            at("18 and a sum of counts", counted != claims.len());
+            at(
+                "18 and a claim",
+                claims.iter().any(|&claim| claim >= 1 << 20),
+            );
+            at("18 and the loss limit", header.loss_limit >= 1 << 20);
+            at("18 and P", header.standard_premium >= 1 << 22);
+            at("18 and e", header.expense >= 1 << 20);
+            at("18 and the mark kind", header.mark_kind > 1);
+        }
+    }
+    corners
+}
+
+#[test]
+fn each_corner_of_crossed_values_is_reached() {
+    let mut random = Random::new(1_969);
+    let mut reached: BTreeMap<String, u32> = BTreeMap::new();
+    for _ in 0..40_000 {
+        let values = random.values();
+        let room = random.room(values.length());
+        for corner in corners_of_values(&values, room) {
+            *reached.entry(corner).or_default() += 1;
+        }
+    }
+    assert_eq!(reached.len(), 18, "{reached:#?}");
     assert!(reached.values().all(|&times| times >= 50), "{reached:#?}");
 }
 
@@ -127,6 +307,19 @@ fn corners_of_quote(quote: &Quote) -> Vec<&'static str> {
         Err(question) => {
             at("12 and 16", question == 12 && refused_16);
             at("12 and 17", question == 12 && refused_17);
+            let risks = get(&quote.file, RISKS) as usize;
+            let short_premiums = quote.premiums_room < 4 * risks;
+            let short_differences = quote.differences_room < risks;
+            at(
+                "18 and 13 of the premiums",
+                question == 18 && short_premiums,
+            );
+            at(
+                "18 and 13 of the differences",
+                question == 18 && short_differences,
+            );
+            at("18 and 16", question == 18 && refused_16);
+            at("18 and 17", question == 18 && refused_17);
             return corners;
         }
     };
@@ -215,6 +408,6 @@ fn each_corner_of_a_schedule_is_reached() {
             *reached.entry(corner).or_default() += 1;
         }
     }
-    assert_eq!(reached.len(), 43, "{reached:#?}");
+    assert_eq!(reached.len(), 47, "{reached:#?}");
     assert!(reached.values().all(|&times| times >= 50), "{reached:#?}");
 }

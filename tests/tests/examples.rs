@@ -1,8 +1,9 @@
 //! The example files are what their generator writes, and their expected lines are what the second
 //! rater says.
 
+use retro_tests::generator::{get, set, MARK_KIND, MAXIMUM_MARK, MINIMUM_MARK, STANDARD_PREMIUM};
 use retro_tests::samples::FOUR_RISKS_PRINTED;
-use retro_tests::{examples, second_rater};
+use retro_tests::{examples, refused_example, second_rater, QUESTIONS_OF_A_FILE};
 use std::collections::BTreeMap;
 use std::path::Path;
 use std::process::Command;
@@ -47,15 +48,32 @@ fn examples_are_what_the_generator_writes() {
 
 #[test]
 fn there_is_an_example_for_each_question_that_a_file_alone_can_fail() {
-    for question in 1..=12 {
-        let file = fs::read(examples().join(format!("refused-{question:02}.group"))).unwrap();
+    for question in QUESTIONS_OF_A_FILE {
+        let path = refused_example(question);
+        let file = fs::read(&path).unwrap();
         assert_eq!(second_rater::rate(&file, 1_020), Err(question));
-        let expected = fs::read(examples().join(format!("refused-{question:02}.expected")));
-        assert_eq!(
-            expected.unwrap(),
-            format!("refused {question}\n").as_bytes()
-        );
+        let expected = fs::read_to_string(path.with_extension("expected")).unwrap();
+        assert_eq!(expected, format!("refused {question}\n"));
     }
+    let of_the_folder = files(&examples());
+    let refused = of_the_folder
+        .keys()
+        .filter(|name| name.starts_with("refused-"));
+    assert_eq!(refused.count(), 2 * QUESTIONS_OF_A_FILE.len());
+}
+
+/// The example of question 18 passes all others: document 02's marks 0.900 and 0.950 on P 1, where
+/// both are 0 dollars, and rated with the minimum mark at the maximum.
+#[test]
+fn example_of_question_18_fails_no_other() {
+    let mut file = fs::read(refused_example(18)).unwrap();
+    assert_eq!(get(&file, STANDARD_PREMIUM), 1);
+    assert_eq!(get(&file, MARK_KIND), 0);
+    assert_eq!(get(&file, MAXIMUM_MARK), 900);
+    assert_eq!(get(&file, MINIMUM_MARK), 950);
+    set(&mut file, MINIMUM_MARK, 900);
+    let rated = second_rater::rate(&file, 4).unwrap();
+    assert_eq!((rated.lines[0].ratable, rated.billed), (0, 10));
 }
 
 #[test]

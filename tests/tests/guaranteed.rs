@@ -3,12 +3,13 @@
 //! from the papers or worked out beside the test.
 
 use retro_tests::calls::{self, Numbers};
-use retro_tests::examples;
 use retro_tests::generator::Random;
+use retro_tests::held_calls::Call;
 use retro_tests::samples::{
     four_risks, largest, one_claim_of_one, one_risk, schedule, stock, ten_risks, two_risks_of_ten,
 };
 use retro_tests::second_rater::Layer;
+use retro_tests::{examples, refused_example, QUESTIONS_OF_A_FILE};
 use std::fs;
 
 // What everything lent holds before a call.
@@ -55,11 +56,10 @@ fn guaranteed(
         assert_eq!(numbers, BEFORE);
         return Err(answer);
     }
-    let premium = |four: &[u8]| u32::from_be_bytes([four[0], four[1], four[2], four[3]]);
     differences.truncate(filled);
     Ok(Given {
         numbers,
-        premiums: premiums[..4 * filled].chunks(4).map(premium).collect(),
+        premiums: calls::premiums_in(&premiums[..4 * filled]),
         differences,
     })
 }
@@ -439,8 +439,8 @@ fn fifteen_bytes_give_1_whatever_the_schedule() {
 
 #[test]
 fn each_file_that_rate_refuses_keeps_its_number() {
-    for question in 1..=12 {
-        let file = fs::read(examples().join(format!("refused-{question:02}.group"))).unwrap();
+    for question in QUESTIONS_OF_A_FILE {
+        let file = fs::read(refused_example(question)).unwrap();
         for layers in [refused_16(), refused_17(), vec![stock()]].concat() {
             assert_eq!(with_room(&file, layers), Err(question));
             assert_eq!(guaranteed(&file, layers, 0, 0), Err(question));
@@ -492,10 +492,12 @@ fn the_rest_is_what_rate_gives() {
         }
     }
     let mut random = Random::new(1_986);
-    let mut given = [0; 14];
+    let mut given = [0; 19];
     for _ in 0..20_000 {
         let quote = random.quote();
         given[compare_with_rate(&quote.file, quote.premiums_room) as usize] += 1;
     }
-    assert!(given.iter().all(|&times| times >= 20), "{given:?}");
+    for &answer in Call::Rate.answers() {
+        assert!(given[answer as usize] >= 20, "{answer}: {given:?}");
+    }
 }

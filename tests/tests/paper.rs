@@ -1,11 +1,12 @@
-//! Document 01's cases and source document 001's ten risks through the exported calls. Expected
-//! values are typed from the papers; where a paper gives none, the second rater does, and the test
-//! says so.
+//! Document 01's cases, as job 2 of document 02 leaves them, and source document 001's ten risks
+//! through the exported calls. Expected values are typed from the papers; where a paper gives none,
+//! the second rater does, and the test says so.
 
-use retro_tests::calls::{self, Group, Header};
+use retro_tests::calls::{self, rated, Group, Header, Numbers, Rated};
 use retro_tests::held_calls::HeldCalls;
 use retro_tests::samples::{
-    crossed_marks, four_risks, largest, one_claim_of_one, ten_risks, two_risks_of_ten, Sample,
+    crossed_marks, four_risks, largest, one_claim_of_one, stock, ten_risks, two_risks_of_ten,
+    Sample,
 };
 
 /// Document 01's four-risk group, field by field: 128 bits of header, then 6 bits for each count
@@ -20,43 +21,9 @@ const FOUR_RISKS: [u8; 34] = [
     0x30, 0x13, 0x88, 0x01, 0x77, 0x00, 0x07, 0xd0, // 3 claims: 5,000, 6,000 and 2,000
 ];
 
-/// What Rate gives: n, M, Q, the sum billed and the premiums.
-#[derive(Debug, PartialEq)]
-struct Rated {
-    numbers: (u32, u64, u64, u64),
-    premiums: Vec<u32>,
-}
-
-/// Rate of a file with a buffer of so many bytes, of which those after the premiums keep their
-/// contents.
-fn rate(file: &[u8], room: usize) -> Result<Rated, u32> {
-    let mut buffer = vec![0xee; room];
-    let (mut n, mut basic, mut excess, mut billed) = (9, 9, 9, 9);
-    let answer = calls::rate(
-        file,
-        &mut buffer,
-        &mut n,
-        &mut basic,
-        &mut excess,
-        &mut billed,
-    );
-    if answer != 0 {
-        assert_eq!((n, basic, excess, billed), (9, 9, 9, 9));
-        assert!(buffer.iter().all(|&byte| byte == 0xee));
-        return Err(answer);
-    }
-    let (written, rest) = buffer.split_at(4 * n as usize);
-    assert!(rest.iter().all(|&byte| byte == 0xee));
-    let premium = |four: &[u8]| u32::from_be_bytes([four[0], four[1], four[2], four[3]]);
-    Ok(Rated {
-        numbers: (n, basic, excess, billed),
-        premiums: written.chunks(4).map(premium).collect(),
-    })
-}
-
 /// Rate of a group, with a buffer that is just enough.
 fn rate_group(sample: &Sample) -> Result<Rated, u32> {
-    rate(&write(sample), 4 * sample.risks.len())
+    rated(&write(sample), 4 * sample.risks.len())
 }
 
 /// Table: charge and savings.
@@ -76,10 +43,27 @@ fn read(file: &[u8]) -> u32 {
     calls::read(file, &mut [0; 255], &mut vec![0; 16_065]).refused
 }
 
+/// Guaranteed's refusal under the stock schedule, where the buffers are large; all keep their
+/// contents.
+fn guaranteed_refuses(file: &[u8]) -> u32 {
+    let (mut premiums, mut differences) = ([0xee; 1_020], [9; 255]);
+    let (schedule, mut numbers) = (stock().into(), Numbers::default());
+    let lent = &mut numbers.lend();
+    let answer = calls::guaranteed(file, schedule, &mut premiums, &mut differences, lent);
+    assert_eq!((premiums, differences), ([0xee; 1_020], [9; 255]));
+    assert_eq!(numbers, Numbers::default());
+    answer
+}
+
 /// The file of a group, by Write.
 fn write(sample: &Sample) -> Vec<u8> {
-    let mut file = vec![0; 40_370];
-    let mut length = 0;
+    try_write(sample).unwrap()
+}
+
+/// The file of a group, or Write's refusal.
+fn try_write(sample: &Sample) -> Result<Vec<u8>, u32> {
+    let mut file = vec![0xee; 40_370];
+    let mut length = 9;
     let (counts, claims) = (sample.counts(), sample.claims());
     let answer = calls::write(
         sample.header.into(),
@@ -88,16 +72,21 @@ fn write(sample: &Sample) -> Vec<u8> {
         &mut file,
         &mut length,
     );
-    assert_eq!(answer, 0);
+    if answer != 0 {
+        assert_eq!(length, 9);
+        assert!(file.iter().all(|&byte| byte == 0xee));
+        return Err(answer);
+    }
     file.truncate(length);
-    file
+    Ok(file)
 }
 
-/// The same refusal from the three calls on a file.
+/// The same refusal from the four calls on a file.
 fn all_refuse(file: &[u8], question: u32) {
-    assert_eq!(rate(file, 1_020), Err(question));
+    assert_eq!(rated(file, 1_020), Err(question));
     assert_eq!(table(file, 100), Err(question));
     assert_eq!(read(file), question);
+    assert_eq!(guaranteed_refuses(file), question);
 }
 
 // ---- the four-risk group
@@ -109,7 +98,7 @@ fn four_risks_in_bytes() {
 
 #[test]
 fn four_risks_rated() {
-    let rated = rate(&FOUR_RISKS, 16).unwrap();
+    let rated = rated(&FOUR_RISKS, 16).unwrap();
     assert_eq!(rated.numbers, (4, 6_700_000, 3_300_000, 33_600));
     assert_eq!(rated.premiums, [4_935, 7_245, 8_400, 13_020]);
 }
@@ -198,9 +187,13 @@ fn two_risks_of_10() {
 }
 
 #[test]
-fn marks_of_no_dollars_pass_question_11() {
-    assert!(rate_group(&crossed_marks(1)).is_ok());
-    assert_eq!(rate_group(&crossed_marks(1_000)), Err(11));
+fn a_minimum_mark_above_the_maximum_gives_18() {
+    // Document 01 rated P 1, where both marks are 0 dollars, and refused P 1,000 with 11.
+    for standard_premium in [1, 1_000] {
+        let sample = crossed_marks(standard_premium);
+        all_refuse(&sample.file_of_any_marks(), 18);
+        assert_eq!(try_write(&sample), Err(18));
+    }
 }
 
 #[test]
@@ -250,17 +243,17 @@ fn all_claims_0_gives_10() {
     let mut sample = four_risks();
     sample.risks = vec![vec![], vec![0, 0], vec![0], vec![0, 0, 0]];
     let file = write(&sample);
-    assert_eq!(rate(&file, 16), Err(10));
+    assert_eq!(rated(&file, 16), Err(10));
     assert_eq!(table(&file, 100), Err(10));
     assert_eq!(read(&file), 0);
 }
 
 #[test]
 fn fifteen_output_bytes_give_13() {
-    assert_eq!(rate(&FOUR_RISKS, 15), Err(13));
-    assert_eq!(rate(&FOUR_RISKS, 0), Err(13));
-    assert!(rate(&FOUR_RISKS, 16).is_ok());
-    assert!(rate(&FOUR_RISKS, 17).is_ok());
+    assert_eq!(rated(&FOUR_RISKS, 15), Err(13));
+    assert_eq!(rated(&FOUR_RISKS, 0), Err(13));
+    assert!(rated(&FOUR_RISKS, 16).is_ok());
+    assert!(rated(&FOUR_RISKS, 17).is_ok());
 }
 
 #[test]
@@ -281,7 +274,7 @@ fn each_bit_of_the_three_risk_file_as_the_second_rater_says() {
 #[test]
 fn each_claim_is_limited_and_not_the_sum() {
     // With A 5,000 the fourth risk would have K 5,000 and the third risk's premium.
-    let rated = rate(&FOUR_RISKS, 16).unwrap();
+    let rated = rated(&FOUR_RISKS, 16).unwrap();
     assert_eq!(rated.premiums[2..], [8_400, 13_020]);
 }
 
@@ -323,7 +316,7 @@ fn savings_less_charge_is_kept_by_rounding() {
 #[test]
 fn ten_risks_of_document_001() {
     let file = write(&ten_risks());
-    let rated = rate(&file, 40).unwrap();
+    let rated = rated(&file, 40).unwrap();
     assert_eq!(rated.numbers, (10, 20_400_000, 0, 95_800));
     assert_eq!(
         rated.premiums,

@@ -3,7 +3,7 @@
 
 use retro_tests::generator::Random;
 use retro_tests::second_rater::Line;
-use retro_tests::{examples, program, second_rater};
+use retro_tests::{examples, program, second_rater, QUESTIONS_OF_A_FILE};
 use std::cmp::Ordering;
 use std::collections::BTreeMap;
 use std::fs::{self, File};
@@ -90,7 +90,8 @@ fn inputs_longer_than_the_largest_file() {
     let mut file = example("four-risks.group");
     file.resize(1 << 20, 0);
     assert_eq!(printed(&file, "megabyte-of-four"), "refused 8\n");
-    for k in 2..=7 {
+    // the questions of the header
+    for k in [2, 3, 4, 5, 6, 18, 7] {
         let mut file = example(&format!("refused-{k:02}.group"));
         file.resize(1 << 20, 0xff);
         assert_eq!(printed(&file, "megabyte-refused"), format!("refused {k}\n"));
@@ -185,6 +186,10 @@ fn generated_files() {
     // twelve refusals, rated, and six kinds of lines, each often enough
     println!("{counts:#?}");
     assert_eq!(counts.len(), 19, "{counts:#?}");
+    for question in QUESTIONS_OF_A_FILE {
+        let refused = format!("refused {question}");
+        assert!(counts.contains_key(&refused), "{counts:#?}");
+    }
     assert!(counts.values().all(|&times| times >= LEAST), "{counts:#?}");
     assert!(counts["rated"] >= FILES / 4, "{counts:#?}");
 }

@@ -2,6 +2,7 @@
 //! work.
 
 use retro_tests::generator::Random;
+use retro_tests::held_calls::Call;
 use retro_tests::samples::largest;
 use retro_tests::{second_rater, straightforward};
 
@@ -34,7 +35,7 @@ fn compare(file: &[u8], room: usize) -> u32 {
 #[test]
 fn generated_files() {
     let mut random = Random::new(1_966);
-    let mut given = [0; 14];
+    let mut given = [0; 19];
     for _ in 0..20_000 {
         let file = random.file();
         let n = file.get(14..16).map_or(0, |two| {
@@ -43,7 +44,9 @@ fn generated_files() {
         let room = random.one_of(&[4 * n, 4 * n + 3, (4 * n).saturating_sub(1)]);
         given[compare(&file, room) as usize] += 1;
     }
-    assert!(given.iter().all(|&times| times >= 20), "{given:?}");
+    for &answer in Call::Rate.answers() {
+        assert!(given[answer as usize] >= 20, "{answer}: {given:?}");
+    }
 }
 
 #[test]

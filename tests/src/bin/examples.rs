@@ -6,7 +6,8 @@
 
 use retro_tests::calls;
 use retro_tests::generator::{
-    set, Random, CONVERSION, EDITION, HEADER, MAXIMUM_MARK, RISKS, STANDARD_PREMIUM, TAX,
+    set, Random, CONVERSION, EDITION, HEADER, MAXIMUM_MARK, MINIMUM_MARK, RISKS, STANDARD_PREMIUM,
+    TAX,
 };
 use retro_tests::samples::{
     crossed_marks, four_risks, one_claim_of_one, ten_risks, two_risks_of_ten, Sample,
@@ -58,11 +59,11 @@ fn refused() -> Vec<(&'static str, Vec<u8>)> {
         ("refused-04", damaged(|file| set(file, CONVERSION, 999))),
         ("refused-05", damaged(|file| set(file, TAX, 9_999))),
         ("refused-06", damaged(|file| set(file, MAXIMUM_MARK, 6_001))),
+        ("refused-18", marks_crossed()),
         ("refused-07", damaged(no_risks)),
         ("refused-08", damaged(|file| file.push(0))),
         ("refused-09", fill_bit_set()),
         ("refused-10", written(&no_losses())),
-        ("refused-11", written(&crossed_marks(1_000))),
         ("refused-12", written(&two_risks_of_ten(2_000))),
     ]
 }
@@ -71,6 +72,20 @@ fn refused() -> Vec<(&'static str, Vec<u8>)> {
 fn damaged(change: impl Fn(&mut Vec<u8>)) -> Vec<u8> {
     let mut file = written(&four_risks());
     change(&mut file);
+    file
+}
+
+/// Document 02's marks 0.900 and 0.950 on P 1: a file whose minimum mark is at the maximum, and is
+/// then set above it.
+fn marks_crossed() -> Vec<u8> {
+    let crossed = crossed_marks(1);
+    let Header {
+        maximum_mark,
+        minimum_mark,
+        ..
+    } = crossed.header;
+    let mut file = written(&crossed.with_marks(maximum_mark, maximum_mark));
+    set(&mut file, MINIMUM_MARK, minimum_mark);
     file
 }
 

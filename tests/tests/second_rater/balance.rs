@@ -121,10 +121,11 @@ fn random_groups_balance() {
             Err(k) => refused[k as usize] += 1,
         }
     }
-    // Enough groups of each outcome, and no refusal but the three that remain.
+    // Enough groups of each outcome, and no refusal but the two that remain:
+    // marks in order give no No to 11.
     assert!(accepted > 800, "only {accepted} accepted");
-    for k in [10, 11, 12] {
+    for k in [10, 12] {
         assert!(refused[k] > 50, "refused {k} only {} times", refused[k]);
     }
-    assert_eq!(accepted + refused[10] + refused[11] + refused[12], 4_000);
+    assert_eq!(accepted + refused[10] + refused[12], 4_000);
 }

@@ -316,11 +316,13 @@ fn files_refused_by_rate() -> Vec<(u32, Vec<u8>)> {
         (4, with(CONVERSION, 999)),
         (5, with(TAX, 9_999)),
         (6, with(MINIMUM_MARK, 6_001)),
+        (18, with(MINIMUM_MARK, 901)),
+        (18, crossed_marks(1).file_of_any_marks()),
+        (18, crossed_marks(1_000).file_of_any_marks()),
         (7, with(RISKS, 0)),
         (8, longer),
         (9, filled),
         (10, no_losses.file()),
-        (11, crossed_marks(1_000).file()),
         (12, two_risks_of_ten(2_000).file()),
     ]
 }
@@ -622,7 +624,7 @@ fn rated_is_what_rate_gives() {
 #[test]
 fn first_no_of_generated_calls() {
     let mut random = Random::new(0x5eed_0205);
-    let mut results = [0; 18];
+    let mut results = [0; 19];
     for _ in 0..2_500 {
         let file = random.file();
         let mut layers = any_schedule(&mut random, 32);
@@ -655,8 +657,9 @@ fn first_no_of_generated_calls() {
         results[expected as usize] += 1;
     }
     // Each of the results that the schedule and the buffers decide on.
-    for k in [0, 12, 13, 16, 17] {
+    for k in [0, 12, 13, 16, 17, 18] {
         assert!(results[k] > 30, "{k} only {} times", results[k]);
     }
-    assert_eq!(results[14] + results[15], 0);
+    // Those that are not asked, and 11, which no file fails that passed 18.
+    assert_eq!(results[11] + results[14] + results[15], 0);
 }

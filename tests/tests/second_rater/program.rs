@@ -1,6 +1,8 @@
 //! The program `grouptext`.
 
-use retro_tests::samples::{four_risks, largest, one_claim_of_one, ten_risks, FOUR_RISKS_PRINTED};
+use retro_tests::samples::{
+    crossed_marks, four_risks, largest, one_claim_of_one, ten_risks, FOUR_RISKS_PRINTED,
+};
 use retro_tests::{repository, text};
 use std::io::Write;
 use std::path::{Path, PathBuf};
@@ -59,6 +61,17 @@ fn rate_prints_refusals() {
     none.risks = vec![vec![0], vec![], vec![0, 0], vec![]];
     assert_eq!(output(&["rate"], &none.file()), "refused 10\n");
     assert_eq!(output(&["rate"], &[]), "refused 1\n");
+}
+
+#[test]
+fn file_with_crossed_marks_is_refused_18() {
+    let file = crossed_marks(1).file_of_any_marks();
+    assert_eq!(output(&["rate"], &file), "refused 18\n");
+    assert_eq!(output(&["table", "100"], &file), "refused 18\n");
+    let refused = run(&["read"], &file);
+    assert_eq!(refused.status.code(), Some(1));
+    assert!(refused.stdout.is_empty());
+    assert_eq!(refused.stderr, b"refused 18\n");
 }
 
 #[test]
@@ -124,10 +137,14 @@ fn read_of_what_write_made_prints_the_same_text() {
 
 #[test]
 fn write_of_a_text_with_a_mistake_gives_no_byte() {
-    let cases: [(&[u8], &str); 4] = [
+    let cases: [(&[u8], &str); 5] = [
         (
             b"0 0 0 1000 10000 1 1000 0\n1\n",
             "line 1, standard premium: 0 is not a whole number from 1 to 4194303 (dollars)\n",
+        ),
+        (
+            b"0 1 0 1000 10000 0 900 950\n10\n",
+            "line 1, minimum mark: 950 is above the maximum mark of 900 (thousandths)\n",
         ),
         (
             b"0 1 0 1000 10000 1 1000 0\n",
@@ -148,6 +165,17 @@ fn write_of_a_text_with_a_mistake_gives_no_byte() {
         assert!(output.stdout.is_empty());
         assert_eq!(String::from_utf8(output.stderr).unwrap(), mistake);
     }
+}
+
+#[test]
+fn write_of_equal_marks_makes_the_file() {
+    let (file, said) = written(b"0 1 0 1000 10000 0 900 900\n10\n");
+    assert_eq!(file, crossed_marks(1).with_marks(900, 900).file());
+    assert_eq!(said, "1 risk and 1 claim written\n");
+    assert_eq!(
+        output(&["rate"], &file),
+        "group 1 10000 0 10\n1 10 10 0 10\n"
+    );
 }
 
 /// README's text, its message and its mistake are those of the program.

@@ -2,8 +2,8 @@
 //! length.
 
 use retro_tests::generator::{
-    set, Field, Random, CONVERSION, EDITION, LOSS_LIMIT, MAXIMUM_MARK, MINIMUM_MARK, RISKS, SPARE,
-    STANDARD_PREMIUM, TAX,
+    set, Field, Random, CONVERSION, EDITION, LOSS_LIMIT, MARK_KIND, MAXIMUM_MARK, MINIMUM_MARK,
+    RISKS, SPARE, STANDARD_PREMIUM, TAX,
 };
 use retro_tests::samples::{four_risks, one_claim_of_one, two_risks_of_ten, Sample, AMPLE};
 use retro_tests::second_rater::{rate, read, table, write, Header};
@@ -90,6 +90,57 @@ fn marks_give_6() {
 }
 
 #[test]
+fn minimum_mark_above_maximum_mark_gives_18() {
+    // Of either kind, on a premium of which each mark below 1.000 is 0 dollars
+    // and on one of which a thousandth is ten dollars.
+    for (standard_premium, mark_kind) in [(1, 0), (1, 1), (10_000, 0), (10_000, 1)] {
+        let mut file = four_risks().file();
+        set(&mut file, STANDARD_PREMIUM, standard_premium);
+        set(&mut file, MARK_KIND, mark_kind);
+        for (maximum_mark, minimum_mark, passes) in [
+            (0, 0, true),
+            (0, 1, false),
+            (1, 0, true),
+            (899, 900, false),
+            (900, 900, true),
+            (901, 900, true),
+            (0, 6_000, false),
+            (5_999, 6_000, false),
+            (6_000, 6_000, true),
+            (6_000, 5_999, true),
+            (6_000, 0, true),
+        ] {
+            set(&mut file, MAXIMUM_MARK, maximum_mark);
+            set(&mut file, MINIMUM_MARK, minimum_mark);
+            if passes {
+                assert!(read(&file, AMPLE, AMPLE).is_ok());
+                assert_eq!(table(&file, 100), Ok((321, 321)));
+                assert!(matches!(rate(&file, AMPLE), Ok(_) | Err(12)));
+            } else {
+                all_refuse(&file, 18);
+            }
+        }
+    }
+}
+
+#[test]
+fn write_of_a_minimum_mark_above_the_maximum_mark_gives_18() {
+    let sample = four_risks();
+    for (maximum_mark, minimum_mark) in [(899, 900), (0, 1), (5_999, 6_000), (0, 6_000)] {
+        for mark_kind in [0, 1] {
+            let mut crossed = sample.with_marks(maximum_mark, minimum_mark);
+            crossed.header.mark_kind = mark_kind;
+            assert_eq!(write_sample(&crossed, AMPLE), Err(18));
+            let mut exchanged = sample.with_marks(minimum_mark, maximum_mark);
+            exchanged.header.mark_kind = mark_kind;
+            assert!(write_sample(&exchanged, AMPLE).is_ok());
+            let equal = sample.with_marks(minimum_mark, minimum_mark);
+            assert!(write_sample(&equal, AMPLE).is_ok());
+        }
+    }
+}
+
+#[test]
 fn no_risks_give_7() {
     let mut file = four_risks().file();
     set(&mut file, RISKS, 0);
@@ -161,18 +212,6 @@ fn no_losses_give_10() {
     assert_eq!(rate(&file, AMPLE), Err(10));
     assert_eq!(table(&file, 100), Err(10));
     assert!(read(&file, AMPLE, AMPLE).is_ok());
-}
-
-#[test]
-fn minimum_above_maximum_gives_11_in_rate_alone() {
-    let mut sample = four_risks();
-    sample.header.maximum_mark = 199;
-    let file = sample.file();
-    assert_eq!(rate(&file, AMPLE), Err(11));
-    assert_eq!(table(&file, 100), Ok((321, 321)));
-    assert!(read(&file, AMPLE, AMPLE).is_ok());
-    sample.header.maximum_mark = 200;
-    assert!(rate(&sample.file(), AMPLE).is_ok());
 }
 
 #[test]
@@ -281,7 +320,7 @@ fn values_past_their_widths_give_15() {
 }
 
 #[test]
-fn write_asks_3_to_7_before_15() {
+fn write_asks_3_to_6_then_18_then_7_before_15() {
     let header = four_risks().header;
     // Every value is wrong at first; each one put right uncovers the next.
     let mut bad = Header {
@@ -302,9 +341,12 @@ fn write_asks_3_to_7_before_15() {
     assert_eq!(ask(&bad, &[]), Err(5));
     bad.tax = header.tax;
     assert_eq!(ask(&bad, &[]), Err(6));
-    bad.maximum_mark = 6_000;
+    bad.maximum_mark = 5_999;
     assert_eq!(ask(&bad, &[]), Err(6));
     bad.minimum_mark = 6_000;
+    assert_eq!(ask(&bad, &[]), Err(18));
+    assert_eq!(ask(&bad, &[1]), Err(18));
+    bad.maximum_mark = 6_000;
     assert_eq!(ask(&bad, &[]), Err(7));
     assert_eq!(ask(&bad, &[1]), Err(15));
     bad.loss_limit = 0;
@@ -323,7 +365,8 @@ fn write_does_not_ask_10_to_12() {
 
 #[test]
 fn first_no_of_a_file_is_the_result() {
-    // A file that fails 2 to 9 at once; each field put right uncovers the next.
+    // A file that fails 2 to 9 and 18 at once; each field put right uncovers the
+    // next.
     let mut file = one_claim_of_one(3).file();
     let good = file.clone();
     let good_fields = |file: &mut Vec<u8>, field: Field| {
@@ -336,7 +379,8 @@ fn first_no_of_a_file_is_the_result() {
     set(&mut file, STANDARD_PREMIUM, 0);
     set(&mut file, CONVERSION, 0);
     set(&mut file, TAX, 0);
-    set(&mut file, MAXIMUM_MARK, 8_191);
+    set(&mut file, MAXIMUM_MARK, 8_190);
+    set(&mut file, MINIMUM_MARK, 8_191);
     set(&mut file, RISKS, 0);
     let last = file.len() - 1;
     file[last] |= 1;
@@ -352,6 +396,10 @@ fn first_no_of_a_file_is_the_result() {
     good_fields(&mut file, TAX);
     all_refuse(&file, 6);
     good_fields(&mut file, MAXIMUM_MARK);
+    all_refuse(&file, 6);
+    set(&mut file, MINIMUM_MARK, 1_001);
+    all_refuse(&file, 18);
+    good_fields(&mut file, MINIMUM_MARK);
     all_refuse(&file, 7);
     good_fields(&mut file, RISKS);
     all_refuse(&file, 8);
@@ -363,17 +411,16 @@ fn first_no_of_a_file_is_the_result() {
 
 #[test]
 fn rate_asks_10_to_13_in_order() {
-    // No losses, crossed marks, and no space.
+    // No losses, a negative basic, and no space. Between 10 and 12 no file fails
+    // 11 that passed 18.
     let mut sample = four_risks();
-    sample.header.maximum_mark = 100;
+    sample.header.maximum_mark = 6_000;
     sample.header.expense = 0;
     let with_losses = sample.clone();
     sample.risks = vec![vec![0]; 4];
     assert_eq!(rate(&sample.file(), 0), Err(10));
     assert_eq!(table(&sample.file(), 601), Err(10));
     sample = with_losses;
-    assert_eq!(rate(&sample.file(), 0), Err(11));
-    sample.header.maximum_mark = 6_000;
     assert_eq!(rate(&sample.file(), 0), Err(12));
     sample.header.expense = 2_000;
     assert_eq!(rate(&sample.file(), 0), Err(13));
@@ -406,20 +453,20 @@ fn long_files_are_handled() {
     all_refuse(&file, 8);
 }
 
-/// Questions 1 to 9 have the same answer in the three calls on a file. Gives
-/// whether the file passes them.
-fn passes_1_to_9(file: &[u8]) -> bool {
+/// Questions 1 to 9 and 18 have the same answer in the three calls on a file.
+/// Gives whether the file passes them.
+fn passes_1_to_9_and_18(file: &[u8]) -> bool {
     let rated = rate(file, AMPLE);
     let tabled = table(file, 100);
     match read(file, AMPLE, AMPLE) {
         Err(k) => {
-            assert!((1..=9).contains(&k));
+            assert!((1..=9).contains(&k) || k == 18);
             assert_eq!(rated, Err(k));
             assert_eq!(tabled, Err(k));
             false
         }
         Ok(_) => {
-            assert!(!matches!(rated, Err(k) if !(10..=12).contains(&k)));
+            assert!(!matches!(rated, Err(k) if k != 10 && k != 12));
             assert!(!matches!(tabled, Err(k) if k != 10));
             assert_eq!(rated == Err(10), tabled == Err(10));
             true
@@ -440,7 +487,7 @@ fn any_bytes_are_handled() {
                 *byte = good;
             }
         }
-        passes_1_to_9(&file);
+        passes_1_to_9_and_18(&file);
     }
 }
 
@@ -453,7 +500,7 @@ fn files_with_one_bit_turned_are_handled() {
         let mut file = random.group().file();
         let bit = random.between(0, 8 * file.len() as u32 - 1) as usize;
         file[bit / 8] ^= 0x80 >> (bit % 8);
-        if passes_1_to_9(&file) {
+        if passes_1_to_9_and_18(&file) {
             passed += 1;
         } else {
             refused += 1;

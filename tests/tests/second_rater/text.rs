@@ -61,7 +61,8 @@ fn limits_are_those_of_write() {
 
 #[test]
 fn each_header_value_has_its_limits() {
-    let header = [5_000, 10_000, 2_000, 1_100, 10_500, 0, 900, 200];
+    // with the ends for marks, so that each mark beside them is in order
+    let header = [5_000, 10_000, 2_000, 1_100, 10_500, 0, 6_000, 0];
     let limits = [
         ("loss limit", 0, 1_048_575, "dollars, 0 for no limit"),
         ("standard premium", 1, 4_194_303, "dollars"),
@@ -107,6 +108,45 @@ fn each_header_value_has_its_limits() {
         mistake(""),
         "line 1, loss limit: missing; a whole number from 0 to 1048575 (dollars, 0 for no limit)"
     );
+}
+
+#[test]
+fn minimum_mark_has_its_limit_in_the_maximum_mark() {
+    let with = |kind: u32, maximum: u32, minimum: u32| {
+        format!("5000 10000 2000 1100 10500 {kind} {maximum} {minimum}\n1\n")
+    };
+    for kind in [0, 1] {
+        for (maximum, minimum) in [(0, 1), (900, 901), (900, 950), (5_999, 6_000), (0, 6_000)] {
+            assert_eq!(
+                mistake(&with(kind, maximum, minimum)),
+                format!(
+                    "line 1, minimum mark: {minimum} is above the maximum mark of {maximum} \
+                     (thousandths)"
+                )
+            );
+            for (maximum, minimum) in [(maximum, maximum), (minimum, minimum), (minimum, maximum)] {
+                let sample = parse(with(kind, maximum, minimum).as_bytes()).unwrap();
+                let header = sample.header;
+                assert_eq!(
+                    (header.maximum_mark, header.minimum_mark),
+                    (maximum, minimum)
+                );
+                assert!(second_rater::read(&sample.file(), 1, 1).is_ok());
+            }
+        }
+    }
+    // A mistake of one mark, or of the number of values, is named first.
+    assert_eq!(
+        mistake(&with(0, 900, 6_001)),
+        "line 1, minimum mark: 6001 is not a whole number from 0 to 6000 (thousandths)"
+    );
+    assert_eq!(
+        mistake("5000 10000 2000 1100 10500 0 900 950 4\n1\n"),
+        "line 1, header: 9 values; the header has 8"
+    );
+    // It is named before a mistake of a later line.
+    let said = mistake("5000 10000 2000 1100 10500 0 900 950\n\n");
+    assert!(said.starts_with("line 1, minimum mark: "));
 }
 
 #[test]

@@ -3,10 +3,10 @@
 
 use retro_tests::generator::Random;
 use retro_tests::samples::{
-    crossed_marks, four_risks, largest, one_claim_of_one, ten_risks, two_risks_of_ten, Sample,
-    AMPLE, FOUR_RISKS_PRINTED,
+    crossed_marks, four_risks, largest, one_claim_of_one, stock, ten_risks, two_risks_of_ten,
+    Sample, AMPLE, FOUR_RISKS_PRINTED,
 };
-use retro_tests::second_rater::{print_rated, rate, table, Header, Line};
+use retro_tests::second_rater::{guaranteed, print_rated, rate, read, table, write, Header, Line};
 
 fn billed(sample: &Sample) -> Vec<u128> {
     rate(&sample.file(), AMPLE).unwrap().premiums
@@ -111,11 +111,22 @@ fn two_risks_of_ten_with_both_conversion_factors() {
 }
 
 #[test]
-fn crossed_marks_pass_when_both_are_no_dollars() {
-    let rated = rate(&crossed_marks(1).file(), AMPLE).unwrap();
+fn crossed_marks_are_refused_whatever_their_dollars() {
+    // 0 and 0 dollars of P 1, 900 and 950 of P 1,000.
+    for standard_premium in [1, 1_000] {
+        let sample = crossed_marks(standard_premium);
+        let file = sample.file_of_any_marks();
+        assert_eq!(rate(&file, AMPLE), Err(18));
+        assert_eq!(table(&file, 100), Err(18));
+        assert_eq!(read(&file, AMPLE, AMPLE), Err(18));
+        assert_eq!(guaranteed(&file, &stock(), AMPLE, AMPLE), Err(18));
+        let (counts, claims) = (sample.counts(), sample.claims());
+        assert_eq!(write(&sample.header, &counts, &claims, AMPLE), Err(18));
+    }
+    // With equal marks the P 1 group is rated as document 01 had it.
+    let rated = rate(&crossed_marks(1).with_marks(900, 900).file(), AMPLE).unwrap();
     assert_eq!(rated.lines[0].ratable, 0);
     assert_eq!(rated.premiums, [10]);
-    assert_eq!(rate(&crossed_marks(1_000).file(), AMPLE), Err(11));
 }
 
 #[test]
