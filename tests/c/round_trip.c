@@ -74,7 +74,7 @@ static void fill_numbers(uint32_t *numbers, size_t len)
     }
 }
 
-/* retro_write that is refused with `question`, and leaves the length and every byte as they were. */
+/* retro_write that is refused with `question` and leaves the length and every byte as they were. */
 static void refuse_group(const char *what, uint32_t question, retro_header header,
                          const uint8_t *counts, const uint32_t *claims, size_t room,
                          uint8_t file[LENGTH + MORE])
@@ -93,9 +93,10 @@ static void refuse_group(const char *what, uint32_t question, retro_header heade
 static void write_group(const char *what, retro_header header, const uint8_t *counts,
                         const uint32_t *claims, uint8_t file[LENGTH + MORE])
 {
-    retro_header swapped = header;
-    swapped.minimum_mark = header.maximum_mark + 1;
-    refuse_group("write of swapped marks", 18, swapped, counts, claims, LENGTH + MORE, file);
+    retro_header crossed = header;
+    crossed.minimum_mark = header.maximum_mark + 1;
+    refuse_group("write of a minimum mark above the maximum mark", 18, crossed, counts, claims,
+                 LENGTH + MORE, file);
     refuse_group("write into a byte too few", 13, header, counts, claims, LENGTH - 1, file);
     size_t length = UNTOUCHED;
     value(what, retro_write(header, counts, RISKS, claims, CLAIMS, file, LENGTH + MORE, &length),

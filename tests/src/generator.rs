@@ -381,7 +381,7 @@ impl Random {
     }
 
     /// Sets the minimum mark above the maximum mark, some as loss ratios of a premium of 1, where
-    /// they mostly come to the same dollars.
+    /// about half come to the same dollars.
     fn cross_the_marks(&mut self, file: &mut [u8]) {
         let (maximum_mark, minimum_mark) = self.crossed_marks();
         set(file, MAXIMUM_MARK, maximum_mark);

@@ -30,11 +30,11 @@ pub fn examples() -> PathBuf {
     repository().join("examples")
 }
 
-/// The questions that a file alone can fail, in the order in which they are asked. No file fails
-/// question 11 any more: it would have failed 18.
+/// The questions that can be the first No of a file, in the order in which they are asked. 11
+/// cannot: a file that fails it has failed 18.
 pub const QUESTIONS_OF_A_FILE: [u32; 12] = [1, 2, 3, 4, 5, 6, 18, 7, 8, 9, 10, 12];
 
-/// The example file that fails this question alone.
+/// The example file that is refused with this question.
 pub fn refused_example(question: u32) -> PathBuf {
     examples().join(format!("refused-{question:02}.group"))
 }

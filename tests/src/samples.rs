@@ -137,7 +137,7 @@ pub fn two_risks_of_ten(conversion: u32) -> Sample {
 }
 
 /// Loss ratio marks 0.900 and 0.950 with c 1.000, which job 2 of document 02
-/// refuses: no `file`, but a `file_of_any_marks`. The document leaves the rest
+/// refuses: no `file`, but a `file_of_any_marks`. Document 01 leaves the rest
 /// open; here e is 0, T 1.0000, no limit, and one risk has one claim of 10.
 pub fn crossed_marks(standard_premium: u32) -> Sample {
     Sample {

@@ -685,7 +685,8 @@ fn write_with_null_pointers_where_the_count_is_0() {
 
 #[test]
 fn files_as_long_as_the_address_space_has_room_for() {
-    // The answers are document 01's: no question before 8 is about the length, beyond 16 bytes.
+    // The answers are those of documents 01 and 02: no question before 8 is about the length,
+    // beyond 16 bytes.
     for power in [20, 29, 32, 35, 44] {
         let mut memory = Sparse::new(1 << power);
         let file = memory.bytes();

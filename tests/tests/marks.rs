@@ -1,7 +1,8 @@
 //! Question 18, job 2 of document 02, through the exported calls: which marks pass, where it stands
 //! among the other questions, by inputs with two faults, and that what is accepted is rated as
 //! before. Expected answers are typed here; every number and every byte beside them, also after a
-//! refusal, is held to the second rater.
+//! refusal, is held to the second rater. Where results are typed too, they are held to those
+//! alone.
 
 use retro_tests::calls::{self, Rated};
 use retro_tests::generator::{
@@ -32,7 +33,8 @@ fn write(held_calls: &mut HeldCalls, sample: &Sample) -> u32 {
     held_calls.write(&sample.header, &counts, &claims, 1 << 11)
 }
 
-/// The answers of Rate, Guaranteed, Table, Read and Write to a group with nothing else to refuse.
+/// The answers of Rate, Guaranteed, Table, Read and Write to a group, with room enough and a sound
+/// schedule.
 fn answers(held_calls: &mut HeldCalls, sample: &Sample) -> [u32; 5] {
     let file = sample.file_of_any_marks();
     [
@@ -341,7 +343,7 @@ fn crossed_marks_with_10_give_18() {
             let crossed = with_marks(&no_losses, kind, maximum, minimum);
             all_give(&mut held_calls, &crossed.file_of_any_marks(), 18);
             let exchanged = with_marks(&no_losses, kind, minimum, maximum);
-            // Read does not ask 10.
+            // Read and Write do not ask 10.
             let answer = [10, 10, 10, 0, 0];
             assert_eq!(answers(&mut held_calls, &exchanged), answer);
         }
@@ -350,8 +352,8 @@ fn crossed_marks_with_10_give_18() {
 
 #[test]
 fn crossed_marks_that_document_01_refused_11_give_18() {
-    // LH above LG in dollars: 2,000 and 1,990 of P 10,000, and of the mean loss of 5,250 1,050 and
-    // 1,044; Table and Read did not ask 11.
+    // LH above LG in dollars: 2,000 and 1,990 of P 10,000; 1,050 and 1,044 of the mean loss of
+    // 5,250. Table, Read and Write did not ask 11.
     let mut held_calls = HeldCalls::new();
     for kind in [0, 1] {
         let crossed = with_marks(&four_risks(), kind, 199, 200);

@@ -22,7 +22,7 @@ use Rattle.plan.proofs.Questions.{without, left-out, passed-yes, answer
 abbrev asItStood : List Question → List Question
 asItStood = without 18
 
--- 18 stands in one gate; without it that is document 01's 3 to 7, and the other questions of a list are as they are
+-- 18 stands once in each call's list (`asked-in-order`), in this gate; without it the gate is document 01's 3 to 7
 stood : (h : Header) (n : ℕ) → asItStood (headerQuestions h n) ≡ question3 h ∷ question4 h ∷ question5 h ∷ question6 h ∷ question7 n ∷ []
 stood h n = refl
 

@@ -9,12 +9,12 @@ use Rattle.plan.specs.Questions.{Verdict, passed, failed, firstNo, ratingQuesti
 use Rattle.group.specs.Values.{firstOf, LossesAre}
 use Rattle.rating.specs.declared.details.Details.{Details}
 
--- K of each risk of a file that passes 1 to 12; of another file none
+-- K of each risk of a file that passes 1 to 12, with 18 in its place; of another file none
 abbrev pub ratablesAfter : Verdict → List ℕ → List ℕ
 ratablesAfter passed s = map (ratable (headerOf s) (lossesIn s)) (lossesIn s)
 ratablesAfter (failed k) s = []
 
--- of the file s: L and A of each risk, and K of each where questions 1 to 12 pass
+-- of the file s: L and A of each risk, and K of each where these questions pass
 pub record DetailsAre (s : List ℕ) (r : Details) : Type 0 where
   pub losses : LossesAre (lossesIn s) (r .losses)
   pub ratables : r .ratables ≡ firstOf (ratablesAfter (firstNo (ratingQuestions s)) s)

@@ -50,7 +50,7 @@ fn rated() -> Vec<(&'static str, Vec<u8>)> {
     ]
 }
 
-/// A file for each question that a file alone can fail, which passes all others.
+/// A file for each question that can be the first No of a file.
 fn refused() -> Vec<(&'static str, Vec<u8>)> {
     vec![
         ("refused-01", damaged(|file| file.truncate(HEADER - 1))),

@@ -134,7 +134,8 @@ fn write_of_a_minimum_mark_above_the_maximum_mark_gives_18() {
             let mut exchanged = sample.with_marks(minimum_mark, maximum_mark);
             exchanged.header.mark_kind = mark_kind;
             assert!(write_sample(&exchanged, AMPLE).is_ok());
-            let equal = sample.with_marks(minimum_mark, minimum_mark);
+            let mut equal = sample.with_marks(minimum_mark, minimum_mark);
+            equal.header.mark_kind = mark_kind;
             assert!(write_sample(&equal, AMPLE).is_ok());
         }
     }
