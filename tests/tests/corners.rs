@@ -7,6 +7,7 @@ use retro_tests::generator::{
 use retro_tests::samples::{Sample, AMPLE};
 use retro_tests::second_rater::{self, Guaranteed};
 use std::collections::BTreeMap;
+use std::fmt::Debug;
 
 /// The dollars of a mark.
 fn dollars(sample: &Sample, mark: u32) -> u64 {
@@ -121,17 +122,28 @@ fn corners(sample: &Sample) -> Vec<&'static str> {
     corners
 }
 
-#[test]
-fn each_corner_is_reached() {
-    let mut random = Random::new(1_965);
-    let mut reached: BTreeMap<&str, u32> = BTreeMap::new();
-    for _ in 0..20_000 {
-        for corner in corners(&random.group()) {
+/// So many corners, and no others, are reached by so many draws from this seed, each at least 50
+/// times.
+fn each_is_reached<Corner: Ord + Debug>(
+    corners: usize,
+    seed: u64,
+    draws: u32,
+    drawn: impl Fn(&mut Random) -> Vec<Corner>,
+) {
+    let mut random = Random::new(seed);
+    let mut reached: BTreeMap<Corner, u32> = BTreeMap::new();
+    for _ in 0..draws {
+        for corner in drawn(&mut random) {
             *reached.entry(corner).or_default() += 1;
         }
     }
-    assert_eq!(reached.len(), 38, "{reached:#?}");
+    assert_eq!(reached.len(), corners, "{reached:#?}");
     assert!(reached.values().all(|&times| times >= 50), "{reached:#?}");
+}
+
+#[test]
+fn each_corner_is_reached() {
+    each_is_reached(38, 1_965, 20_000, |random| corners(&random.group()));
 }
 
 /// The corner of crossed marks with a fault of a question that is asked before 18.
@@ -190,17 +202,11 @@ fn corners_of_file(file: &[u8], entry_ratio: u32) -> Vec<String> {
 
 #[test]
 fn each_corner_of_crossed_marks_is_reached() {
-    let mut random = Random::new(1_968);
-    let mut reached: BTreeMap<String, u32> = BTreeMap::new();
-    for _ in 0..60_000 {
-        let file = random.file();
-        for corner in corners_of_file(&file, random.entry_ratio()) {
-            *reached.entry(corner).or_default() += 1;
-        }
-    }
     // seven of a question before 18, and thirteen of each kind of marks
-    assert_eq!(reached.len(), 33, "{reached:#?}");
-    assert!(reached.values().all(|&times| times >= 50), "{reached:#?}");
+    each_is_reached(33, 1_968, 60_000, |random| {
+        let file = random.file();
+        corners_of_file(&file, random.entry_ratio())
+    });
 }
 
 /// The faults of values for Write beside a minimum mark above the maximum mark.
@@ -267,17 +273,11 @@ fn corners_of_values(values: &Values, room: usize) -> Vec<String> {
 
 #[test]
 fn each_corner_of_crossed_values_is_reached() {
-    let mut random = Random::new(1_969);
-    let mut reached: BTreeMap<String, u32> = BTreeMap::new();
-    for _ in 0..40_000 {
+    each_is_reached(18, 1_969, 40_000, |random| {
         let values = random.values();
         let room = random.room(values.length());
-        for corner in corners_of_values(&values, room) {
-            *reached.entry(corner).or_default() += 1;
-        }
-    }
-    assert_eq!(reached.len(), 18, "{reached:#?}");
-    assert!(reached.values().all(|&times| times >= 50), "{reached:#?}");
+        corners_of_values(&values, room)
+    });
 }
 
 /// The corners at which a schedule lies, and its faults beside those of the file and the buffers.
@@ -401,13 +401,7 @@ fn corners_of_given(quote: &Quote, given: &Guaranteed) -> Vec<&'static str> {
 
 #[test]
 fn each_corner_of_a_schedule_is_reached() {
-    let mut random = Random::new(1_986);
-    let mut reached: BTreeMap<&str, u32> = BTreeMap::new();
-    for _ in 0..40_000 {
-        for corner in corners_of_quote(&random.quote()) {
-            *reached.entry(corner).or_default() += 1;
-        }
-    }
-    assert_eq!(reached.len(), 47, "{reached:#?}");
-    assert!(reached.values().all(|&times| times >= 50), "{reached:#?}");
+    each_is_reached(47, 1_986, 40_000, |random| {
+        corners_of_quote(&random.quote())
+    });
 }
