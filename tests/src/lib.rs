@@ -3,6 +3,8 @@
 //! - `calls`: the five exported calls of target/staticlib/libretro_c.a.
 //! - `second_rater`: the second rater, written from documents 01 and 02 alone.
 //! - `straightforward`: a rater for Rate alone, the benchmark's baseline.
+//! - `peers`: the tuned rater, reader and writer in C that the benchmark measures beside the calls.
+//! - `desk`: the benchmark's groups and buffers, and the calls on them.
 //! - `samples` and `generator`: known groups and schedules, generated groups and schedules, and
 //!   damaged files.
 //! - `text`: the text of a group, for people.
@@ -10,9 +12,11 @@
 //!   rater in it.
 
 pub mod calls;
+pub mod desk;
 pub mod generator;
 pub mod guard;
 pub mod held_calls;
+pub mod peers;
 pub mod samples;
 pub mod second_rater;
 pub mod straightforward;

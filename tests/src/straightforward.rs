@@ -4,7 +4,8 @@
 
 const MOST_RISKS: usize = 255;
 
-/// What Rate gives beside the premiums.
+/// What Rate gives beside the premiums. The tuned rater in C gives the same struct.
+#[repr(C)]
 #[derive(Clone, Copy, Debug, PartialEq, Eq)]
 pub struct Rated {
     /// n, the number of risks.

@@ -1,7 +1,7 @@
 -- Taking a field: what it asks for, and what it gives.
 use mathlib.Core.Path.{_≡_}
 use mathlib.Core.List.{List}
-use Prim.Native.Nat.{ℕ, _+_, _^_, _≤_, _<_}
+use Prim.Native.Nat.{ℕ, _+_, _-_, _/_, _^_, _≤_, _<_}
 use Rattle.plan.specs.Field.{field}
 
 -- a field of w bits at the place `at` is at most 32 bits wide, and the next place is a number of 64 bits
@@ -13,3 +13,8 @@ pub record Reach (at w : ℕ) : Type 0 where
 pub record Took (s : List ℕ) (at w v q : ℕ) : Type 0 where
   pub is : v ≡ field s at w
   pub place : q ≡ at + w
+
+-- the n highest bits of the word w, 64 at most, are those of the bytes s from the place `at` on
+pub record Ahead (s : List ℕ) (at n w : ℕ) : Type 0 where
+  pub few : n ≤ 64
+  pub are : w / 2 ^ (64 - n) ≡ field s at n

@@ -4,7 +4,7 @@
 ghost use mathlib.Core.Path.{_≡_};
 ghost use Prim.Native.Nat.{_+_, _-_, _*_, _/_, _%_, _^_, _≤_, _<_};
 ghost use lib.ListN.{length};
-ghost use Rattle.bits.specs.Take.{Reach, Took};
+ghost use Rattle.bits.specs.Take.{Reach, Took, Ahead};
 ghost use Rattle.bits.specs.Put.{Room, Put, InByte};
 use words::bits_after;
 use words::extract;
@@ -47,6 +47,16 @@ impl BitPlace {
             value,
             next: BitPlace { at: next },
         }
+    }
+
+    // The bits from this place on as the highest of a word, 57 at the least: fields are then cut from its front one after another,
+    // without another load. The word from the place's byte on ends at byte `reach` or before.
+    pub fn ahead(self, file: &[u8], reach: usize) -> u64
+        requires { ⌜ self .at / 8 + 8 ≤ reach ⌝ }
+        ensures { λ r. ⌜ Ahead (now (file .entry)) (self .at) 57 r ⌝ }
+    {
+        let at = self.at;
+        word_within(file, at / 8, reach) << (at % 8) as u32
     }
 
     // Puts the field of `width` bits at this place, a byte a turn, and gives the next place.

@@ -1,29 +1,48 @@
--- The two loops of the walk. After i claims of a risk the sums are those of its first i claims and the place is where they end;
--- after i risks, counts, sums and stored losses are those of the first i. Each law takes one claim, or one risk, more.
--- Assumes nothing.
+-- The two loops of the walk. After i claims of a risk the sums are those of its first i claims; after k risks the running sums are
+-- those over the first k, and the stored losses theirs. Each law takes one claim, or one risk, more. Assumes nothing.
 use mathlib.Core.Path.{_≡_, refl, sym, ap, ap₂, _∙_}
 use mathlib.Core.List.{List, [], _∷_, map}
-use Prim.Native.Nat.{ℕ, _+_, _*_, _/_, _≤_, _<_}
+use Prim.Native.Nat.{ℕ, _+_, _*_, _/_, _%_, _^_, _≤_, _<_, min}
 use native.Mathlib.Omega.{arith}
 use lib.ListN.{length, set, replicate}
 use Rattle.plan.specs.Arithmetic.{sum}
 use Rattle.plan.specs.Sizes.{largestClaim, mostClaims, mostRisks, mostRiskLosses, mostRiskBits, mostFileBits}
 use Rattle.plan.specs.Header.{headerBits}
 use Rattle.plan.specs.Claim.{claimWidth, claimAt, pastClaim, claimsFrom, pastClaims}
-use Rattle.plan.specs.Risk.{countAt, claimsAt, pastRisk, countsFrom, pastRisks}
+use Rattle.plan.specs.Risk.{countAt, firstClaim, claimsAt, pastRisk, countsFrom, risksFrom, pastRisks}
 use Rattle.plan.specs.Losses.{Losses, limitedTo, totalOf, limitedOf, lossesOf, SL, SA, lossesFrom}
 use Rattle.plan.proofs.Sums.{sum-append}
-use Rattle.plan.proofs.Claims.{claim-le, past-claims, past-more}
+use Rattle.plan.proofs.Claims.{claim-le, past-claim, past-claims, past-more}
 use Rattle.plan.proofs.Risks.{count-le, counts-le, counts-more, past-risks-le, past-risks-more}
-use Rattle.plan.proofs.Losses.{limited-le, limited-total, none-limited, total-so-far, limited-so-far, claims-total-le, risk-total-le}
+use Rattle.plan.proofs.Losses.{limited-le, most-limited, limited-total, SA≤SL, none-limited, total-so-far, limited-so-far}
+use Rattle.plan.proofs.Losses.{claims-total-le, risk-total-le}
 use Rattle.plan.proofs.Losses.{losses-so-far, SL-so-far, SA-so-far, SL-le, length-losses-from}
 use Rattle.plan.proofs.Filled.{filled-none}
 use Rattle.group.specs.Values.{firstOf}
 use Rattle.group.proofs.Losses.{first-more}
+use Rattle.bits.specs.Take.{Ahead}
 use Rattle.bits.specs.declared.Taken.{Taken}
-use Rattle.claims.specs.Claim.{ClaimReach, ClaimTaken}
-use Rattle.claims.specs.Walks.{RiskIs, WalkIs}
+use Rattle.bits.specs.declared.BitPlace.{BitPlace}
+use Rattle.bits.proofs.Fronts.{front-is, ahead-past}
+use Rattle.claims.specs.Claim.{ClaimReach, frontClaim}
+use Rattle.claims.specs.Walks.{ClaimRoom, ClaimAdded, CountIs, RiskIs, SumsAre, RiskPassed}
+use Rattle.claims.specs.declared.walk.ClaimSums.{ClaimSums}
 use Rattle.claims.specs.declared.walk.Risk.{Risk}
+use Rattle.claims.specs.declared.walk.SumsSoFar.{SumsSoFar}
+use Rattle.claims.specs.declared.walk.PassedRisk.{PassedRisk}
+
+-- ---- claims on a word's front
+
+-- the claim on the front is the one at the place
+pub front-claim : {s : List ℕ} {at n w : ℕ} → Ahead s at n w → claimWidth ≤ n → frontClaim w ≡ claimAt s at
+unfolding claimAt
+front-claim a h = front-is a claimWidth h
+
+-- and after a shift the next one
+pub front-next : {s : List ℕ} {at n w : ℕ} → Ahead s at n w → 2 * claimWidth ≤ n
+    → frontClaim ((w * 2 ^ claimWidth) % 2 ^ 64) ≡ claimAt s (pastClaim s at)
+front-next {s} {at} a h =
+    front-claim (ahead-past a claimWidth (omega arith)) (omega arith) ∙ ap (claimAt s) (sym (past-claim s at))
 
 -- ---- the claims of a risk
 
@@ -33,62 +52,64 @@ next-reach s {at} {k} {i} {p} e h r =
     let most : p + claimWidth * 0 ≤ at + claimWidth * k = omega (arith, e, past-claims s at i) in
     record { inside = omega (arith, most, r .inside); ends = omega (arith, most, r .ends) }
 
--- of claims from `at` on, i are passed: their sums, and the place after them
-pub record Summing (s : List ℕ) (at limit i p total limited : ℕ) : Type 0 where
-  pub place : p ≡ pastClaims s at i
-  pub total-is : total ≡ totalOf (claimsFrom s at i)
-  pub limited-is : limited ≡ limitedOf limit (claimsFrom s at i)
+-- the word of the claim after i others of k is in reach
+pub word-reach : {at k i p reach : ℕ} → p ≡ at + claimWidth * i → i ≤ k → ClaimReach at k reach → p / 8 + 8 ≤ reach
+word-reach {at} {k} {i} {p} {reach} e h r =
+    let most : p ≤ at + claimWidth * k = omega (arith, e) in omega (arith, most, r .ends)
 
-pub summing-starts : (s : List ℕ) (at limit : ℕ) → Summing s at limit 0 at 0 0
-summing-starts s at limit = record { place = refl; total-is = refl; limited-is = sym (none-limited limit) }
+-- of claims from `at` on, i are summed
+pub record Summing (s : List ℕ) (at limit i : ℕ) (r : ClaimSums) : Type 0 where
+  pub total-is : r .total ≡ totalOf (claimsFrom s at i)
+  pub limited-is : r .limited ≡ limitedOf limit (claimsFrom s at i)
 
-module _ {s : List ℕ} {at limit i p total limited : ℕ} (w : Summing s at limit i p total limited) where
-  -- the sums so far are below what 63 claims can come to
-  pub total-most : total ≤ largestClaim * i
-  total-most = omega (arith, w .total-is, claims-total-le s at i)
+pub summing-starts : (s : List ℕ) (at limit : ℕ) {r : ClaimSums} → r .total ≡ 0 → r .limited ≡ 0 → Summing s at limit 0 r
+summing-starts s at limit l a = record { total-is = l; limited-is = a ∙ sym (none-limited limit) }
 
-  pub limited-most : limited ≤ total
-  limited-most = omega (arith, w .total-is, w .limited-is, limited-total limit (claimsFrom s at i))
-
-  -- one claim more, as the code has it: taken at p, and what the limit leaves of it
-  pub summing-more : {t : Taken} {l : ℕ} → ClaimTaken s p t → l ≡ limitedTo limit (t .value)
-      → Summing s at limit (i + 1) (t .next .at) (total + t .value) (limited + l)
-  summing-more {t} {l} x e =
-      let claim : t .value ≡ claimAt s (pastClaims s at i) = x .is ∙ ap (claimAt s) (w .place) in
+module _ {s : List ℕ} {at limit i : ℕ} {r : ClaimSums} (w : Summing s at limit i r) {most : ℕ}
+    (m : most ≡ limitedTo limit largestClaim) where
+  -- a claim more can be added, of 63
+  pub claim-room : i < mostClaims → ClaimRoom r most
+  claim-room h =
+      let l : r .total ≤ largestClaim * i = omega (arith, w .total-is, claims-total-le s at i) in
+      let a : r .limited ≤ r .total = omega (arith, w .total-is, w .limited-is, limited-total limit (claimsFrom s at i)) in
       record {
-        place = x .next ∙ ap (pastClaim s) (w .place) ∙ sym (past-more s at i);
-        total-is = ap₂ _+_ (w .total-is) claim ∙ sym (total-so-far s at i);
-        limited-is = ap₂ _+_ (w .limited-is) (e ∙ ap (limitedTo limit) claim) ∙ sym (limited-so-far limit s at i);
+        total = omega (arith, l);
+        limited = omega (arith, l, a);
+        bound = omega (arith, m, limited-le limit largestClaim);
       }
 
-  -- the sum with a claim more
-  pub more-most : {t : Taken} {l : ℕ} → ClaimTaken s p t → l ≡ limitedTo limit (t .value)
-      → (total + t .value ≤ largestClaim * (i + 1)) × (limited + l ≤ largestClaim * (i + 1))
-  more-most {t} {l} x e =
-      let v = claim-le s p in
-      let m = limited-le limit (t .value) in
-      (omega (arith, total-most, v, x .is), omega (arith, total-most, limited-most, v, m, x .is, e))
+  -- the claim after them
+  abbrev pub nextClaim : ℕ
+  nextClaim = claimAt s (pastClaims s at i)
+
+  -- one claim more
+  pub summing-more : {claim : ℕ} {q : ClaimSums} → claim ≡ nextClaim → ClaimAdded r claim most q → Summing s at limit (i + 1) q
+  summing-more {claim} {q} e x =
+      let left : min claim most ≡ limitedTo limit nextClaim =
+      ap₂ min e m ∙ most-limited limit nextClaim (claim-le s (pastClaims s at i)) in
+      record {
+        total-is = x .total ∙ ap₂ _+_ (w .total-is) e ∙ sym (total-so-far s at i);
+        limited-is = x .limited ∙ ap₂ _+_ (w .limited-is) left ∙ sym (limited-so-far limit s at i);
+      }
+
+  -- a word from that claim on has it on its front
+  module _ {p word : ℕ} (e : p ≡ at + claimWidth * i) (a : Ahead s p 57 word) where
+    here : p ≡ pastClaims s at i
+    here = e ∙ sym (past-claims s at i)
+
+    pub front-here : frontClaim word ≡ nextClaim
+    front-here = front-claim a (omega arith) ∙ ap (claimAt s) here
+
+    -- and the one behind it after a shift
+    pub front-behind : frontClaim ((word * 2 ^ claimWidth) % 2 ^ 64) ≡ claimAt s (pastClaims s at (i + 1))
+    front-behind = front-next a (omega arith) ∙ ap (claimAt s) (ap (pastClaim s) here ∙ sym (past-more s at i))
 
 -- ---- the risks of a file
 
--- of risks from `at` on, i are passed: counts, sums and entries so far, and the place after them
-pub record Walking (s : List ℕ) (at limit i p claims total limited : ℕ) (totals limiteds : List ℕ) : Type 0 where
-  pub place : p ≡ pastRisks s at i
-  pub claims-are : claims ≡ sum (countsFrom s at i)
-  pub total-is : total ≡ SL (lossesFrom s limit at i)
-  pub limited-is : limited ≡ SA (lossesFrom s limit at i)
-  pub totals-are : totals ≡ firstOf (map (λ r. r .total) (lossesFrom s limit at i))
-  pub limiteds-are : limiteds ≡ firstOf (map (λ r. r .limited) (lossesFrom s limit at i))
-
-pub walking-starts : (s : List ℕ) (at limit : ℕ) → Walking s at limit 0 at 0 0 0 (replicate mostRisks 0) (replicate mostRisks 0)
-walking-starts s at limit = record {
-  place = refl;
-  claims-are = refl;
-  total-is = refl;
-  limited-is = refl;
-  totals-are = filled-none _;
-  limiteds-are = filled-none _;
-}
+-- the sums over no risks
+pub sums-start : (s : List ℕ) (limit : ℕ) {r : SumsSoFar} → r .risks ≡ 0 → r .claims ≡ 0 → r .total ≡ 0 → r .limited ≡ 0
+    → r .next .at ≡ headerBits → SumsAre s limit 0 r
+sums-start s limit n c l a p = record { risks = n; claims = c; total = l; limited = a; next = p }
 
 -- what a risk's numbers are at most
 pub record RiskMost (r : Risk) : Type 0 where
@@ -103,40 +124,95 @@ risk-most {s} {p} {limit} {r} x = record {
   limited = omega (arith, x .total, x .limited, limited-total limit (claimsAt s p));
 }
 
-module _ {s : List ℕ} {at limit i p claims total limited : ℕ} {totals limiteds : List ℕ}
-    (w : Walking s at limit i p claims total limited totals limiteds) where
-  pub place-most : p ≤ at + mostRiskBits * i
-  place-most = omega (arith, w .place, past-risks-le s at i)
+-- the first k + 1 counts add to what the first k add to, and the next
+counts-sum : (s : List ℕ) (k : ℕ) → sum (countsFrom s headerBits (k + 1)) ≡ sum (countsFrom s headerBits k) + countAt s (pastRisks s headerBits k)
+counts-sum s k =
+    ap sum (counts-more s headerBits k)
+    ∙ sum-append (λ x. x) (countsFrom s headerBits k) (countAt s (pastRisks s headerBits k) ∷ [])
+    ∙ omega arith
 
-  pub claims-most : claims ≤ mostClaims * i
-  claims-most = omega (arith, w .claims-are, counts-le s at i)
+module _ {s : List ℕ} {limit k : ℕ} {r : SumsSoFar} (w : SumsAre s limit k r) where
+  pub place-most : r .next .at ≤ headerBits + mostRiskBits * k
+  place-most = omega (arith, w .next, past-risks-le s headerBits k)
 
-  pub sum-most : total ≤ mostRiskLosses * i
-  sum-most = omega (arith, w .total-is, SL-le s limit at i)
+  pub claims-most : r .claims ≤ mostClaims * k
+  claims-most = omega (arith, w .claims, counts-le s headerBits k)
 
-  -- one entry more in an array of one number for each risk
-  stored : (f : Losses → ℕ) (xs : List ℕ) (v : ℕ) → i < mostRisks → xs ≡ firstOf (map f (lossesFrom s limit at i))
-      → v ≡ f (lossesOf limit (claimsAt s (pastRisks s at i))) → set xs i v ≡ firstOf (map f (lossesFrom s limit at (i + 1)))
-  stored f xs v h e is =
-      ap₂ (λ (l : List ℕ) (x : ℕ). set l i x) e is
-      ∙ first-more f (lossesFrom s limit at i) _ (length-losses-from s limit at i) h
-      ∙ ap (λ (l : List Losses). firstOf (map f l)) (sym (losses-so-far s limit at i))
+  pub total-most : r .total ≤ mostRiskLosses * k
+  total-most = omega (arith, w .total, SL-le s limit headerBits k)
 
-  -- one risk more, as the code has it: taken at p
-  pub walking-more : {r : Risk} → RiskIs s p limit r → i < mostRisks
-      → Walking s at limit (i + 1) (r .next .at) (claims + r .count) (total + r .total) (limited + r .limited)
-      (set totals i (r .total)) (set limiteds i (r .limited))
-  walking-more {r} x h =
-      let l : r .total ≡ totalOf (claimsAt s (pastRisks s at i)) = x .total ∙ ap (λ (q : ℕ). totalOf (claimsAt s q)) (w .place) in
-      let a : r .limited ≡ limitedOf limit (claimsAt s (pastRisks s at i)) =
-      x .limited ∙ ap (λ (q : ℕ). limitedOf limit (claimsAt s q)) (w .place) in
+  pub limited-most : r .limited ≤ r .total
+  limited-most = omega (arith, w .total, w .limited, SA≤SL limit (risksFrom s headerBits k))
+
+  -- one risk more, as the code has it: taken where the first k end, and added to the sums
+  pub risk-passed : {x : Risk} {q : SumsSoFar} → RiskIs s (r .next .at) limit x → q .risks ≡ k + 1 → q .claims ≡ r .claims + x .count
+      → q .total ≡ r .total + x .total → q .limited ≡ r .limited + x .limited → q .next ≡ x .next
+      → RiskPassed s limit k (record { total = x .total; limited = x .limited; sums = q })
+  risk-passed {x} {q} i n c l a p =
+      let own-total : x .total ≡ totalOf (claimsAt s (pastRisks s headerBits k)) =
+      i .total ∙ ap (λ (p : ℕ). totalOf (claimsAt s p)) (w .next) in
+      let own-limited : x .limited ≡ limitedOf limit (claimsAt s (pastRisks s headerBits k)) =
+      i .limited ∙ ap (λ (p : ℕ). limitedOf limit (claimsAt s p)) (w .next) in
       record {
-        place = x .next ∙ ap (pastRisk s) (w .place) ∙ sym (past-risks-more s at i);
-        claims-are =
-            ap₂ _+_ (w .claims-are) (x .count ∙ ap (countAt s) (w .place))
-            ∙ sym (ap sum (counts-more s at i) ∙ sum-append (λ x. x) (countsFrom s at i) (countAt s (pastRisks s at i) ∷ []) ∙ omega arith);
-        total-is = ap₂ _+_ (w .total-is) l ∙ sym (SL-so-far s limit at i);
-        limited-is = ap₂ _+_ (w .limited-is) a ∙ sym (SA-so-far s limit at i);
-        totals-are = stored (λ r. r .total) totals (r .total) h (w .totals-are) l;
-        limiteds-are = stored (λ r. r .limited) limiteds (r .limited) h (w .limiteds-are) a;
+        total = own-total;
+        limited = own-limited;
+        sums = record {
+          risks = n;
+          claims = c ∙ ap₂ _+_ (w .claims) (i .count ∙ ap (countAt s) (w .next)) ∙ sym (counts-sum s k);
+          total = l ∙ ap₂ _+_ (w .total) own-total ∙ sym (SL-so-far s limit headerBits k);
+          limited = a ∙ ap₂ _+_ (w .limited) own-limited ∙ sym (SA-so-far s limit headerBits k);
+          next = ap (λ (b : BitPlace). b .at) p ∙ i .next ∙ ap (pastRisk s) (w .next) ∙ sym (past-risks-more s headerBits k);
+        };
       }
+
+-- ---- the counts alone
+
+-- after k risks: the claims counted, and the place of the next risk
+pub record Counting (s : List ℕ) (k p claims : ℕ) : Type 0 where
+  pub place : p ≡ pastRisks s headerBits k
+  pub claims-are : claims ≡ sum (countsFrom s headerBits k)
+
+module _ {s : List ℕ} {k p claims : ℕ} (w : Counting s k p claims) where
+  pub counting-place : p ≤ headerBits + mostRiskBits * k
+  counting-place = omega (arith, w .place, past-risks-le s headerBits k)
+
+  pub counting-most : claims ≤ mostClaims * k
+  counting-most = omega (arith, w .claims-are, counts-le s headerBits k)
+
+  -- one count more, as the code has it: taken at p, and the place after as many claims
+  pub counting-more : {t : Taken} {q : ℕ} → CountIs s p t → q ≡ t .next .at + claimWidth * t .value → Counting s (k + 1) q (claims + t .value)
+  counting-more {t} {q} x e =
+      let count : t .value ≡ countAt s p = x .is in
+      let end : q ≡ pastRisk s p =
+      e ∙ ap₂ (λ (a n : ℕ). a + claimWidth * n) (x .next) count ∙ sym (past-claims s (firstClaim p) (countAt s p)) in
+      record {
+        place = end ∙ ap (pastRisk s) (w .place) ∙ sym (past-risks-more s headerBits k);
+        claims-are = ap₂ _+_ (w .claims-are) (count ∙ ap (countAt s) (w .place)) ∙ sym (counts-sum s k);
+      }
+
+-- ---- the arrays of the walk
+
+-- after k risks the arrays have L and A of each of them, and 0 behind
+pub record Stored (s : List ℕ) (limit k : ℕ) (totals limiteds : List ℕ) : Type 0 where
+  pub totals-are : totals ≡ firstOf (map (λ r. r .total) (lossesFrom s limit headerBits k))
+  pub limiteds-are : limiteds ≡ firstOf (map (λ r. r .limited) (lossesFrom s limit headerBits k))
+
+pub stored-starts : (s : List ℕ) (limit : ℕ) → Stored s limit 0 (replicate mostRisks 0) (replicate mostRisks 0)
+stored-starts s limit = record { totals-are = filled-none _; limiteds-are = filled-none _ }
+
+-- one entry more in an array of one number for each risk
+entry-more : (s : List ℕ) (limit k : ℕ) (f : Losses → ℕ) (xs : List ℕ) (v : ℕ) → k < mostRisks
+    → xs ≡ firstOf (map f (lossesFrom s limit headerBits k))
+    → v ≡ f (lossesOf limit (claimsAt s (pastRisks s headerBits k)))
+    → set xs k v ≡ firstOf (map f (lossesFrom s limit headerBits (k + 1)))
+entry-more s limit k f xs v h e is =
+    ap₂ (λ (l : List ℕ) (x : ℕ). set l k x) e is
+    ∙ first-more f (lossesFrom s limit headerBits k) _ (length-losses-from s limit headerBits k) h
+    ∙ ap (λ (l : List Losses). firstOf (map f l)) (sym (losses-so-far s limit headerBits k))
+
+pub stored-more : {s : List ℕ} {limit k : ℕ} {totals limiteds : List ℕ} {r : PassedRisk} → Stored s limit k totals limiteds
+    → RiskPassed s limit k r → k < mostRisks → Stored s limit (k + 1) (set totals k (r .total)) (set limiteds k (r .limited))
+stored-more {s} {limit} {k} {totals} {limiteds} {r} e x h = record {
+  totals-are = entry-more s limit k (λ r. r .total) totals (r .total) h (e .totals-are) (x .total);
+  limiteds-are = entry-more s limit k (λ r. r .limited) limiteds (r .limited) h (e .limiteds-are) (x .limited);
+}

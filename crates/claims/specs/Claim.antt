@@ -1,7 +1,7 @@
 -- Taking a claim: what it asks for, and what it gives.
 use mathlib.Core.Path.{_≡_}
 use mathlib.Core.List.{List}
-use Prim.Native.Nat.{ℕ, _+_, _*_, _/_, _≤_}
+use Prim.Native.Nat.{ℕ, _+_, _-_, _*_, _/_, _^_, _≤_}
 use Rattle.plan.specs.Sizes.{mostClaims, mostFileBits}
 use Rattle.plan.specs.Claim.{claimWidth, claimAt, pastClaim}
 use Rattle.bits.specs.declared.Taken.{Taken}
@@ -20,3 +20,7 @@ pub record ClaimReach (at count reach : ℕ) : Type 0 where
 pub record ClaimTaken (s : List ℕ) (at : ℕ) (r : Taken) : Type 0 where
   pub is : r .value ≡ claimAt s at
   pub next : r .next .at ≡ pastClaim s at
+
+-- the claim on the front of a word of 64 bits
+abbrev pub frontClaim : ℕ → ℕ
+frontClaim w = w / 2 ^ (64 - claimWidth)

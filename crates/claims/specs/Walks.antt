@@ -1,15 +1,34 @@
--- What the walk over a file's claims gives: of a run of claims, of a risk, and of a run of risks.
+-- What the walk over a file's claims gives: of a claim, of a run of claims, of a risk, of the risks so far, and of all of them.
 use mathlib.Core.Path.{_≡_}
 use mathlib.Core.List.{List}
-use Prim.Native.Nat.{ℕ}
+use Prim.Native.Nat.{ℕ, _+_, _^_, _≤_, _<_, min}
 use Rattle.plan.specs.Arithmetic.{sum}
+use Rattle.plan.specs.Sizes.{largestClaim}
+use Rattle.plan.specs.Header.{headerBits}
 use Rattle.plan.specs.Claim.{claimsFrom, pastClaims}
 use Rattle.plan.specs.Risk.{countAt, firstClaim, claimsAt, pastRisk, countsFrom, pastRisks}
-use Rattle.plan.specs.Losses.{totalOf, limitedOf, lossesFrom}
+use Rattle.plan.specs.Losses.{totalOf, limitedOf, SL, SA, lossesFrom}
 use Rattle.bits.specs.declared.Taken.{Taken}
 use Rattle.group.specs.Values.{LossesAre}
+use Rattle.claims.specs.declared.walk.ClaimSums.{ClaimSums}
 use Rattle.claims.specs.declared.walk.Risk.{Risk}
+use Rattle.claims.specs.declared.walk.SumsSoFar.{SumsSoFar}
+use Rattle.claims.specs.declared.walk.PassedRisk.{PassedRisk}
+use Rattle.claims.specs.declared.walk.Counted.{Counted}
 use Rattle.claims.specs.declared.walk.Walked.{Walked}
+
+-- ---- claims of a risk
+
+-- one more of the largest claims can be added, and so can what is left of it
+pub record ClaimRoom (r : ClaimSums) (most : ℕ) : Type 0 where
+  pub total : r .total + largestClaim < 2 ^ 32
+  pub limited : r .limited + largestClaim < 2 ^ 32
+  pub bound : most ≤ largestClaim
+
+-- a claim added: to the one sum all of it, to the other what `most` leaves of it
+pub record ClaimAdded (r : ClaimSums) (claim most : ℕ) (q : ClaimSums) : Type 0 where
+  pub total : q .total ≡ r .total + claim
+  pub limited : q .limited ≡ r .limited + min claim most
 
 -- the count of the risk that begins at the place `at`, and the place of its first claim
 pub record CountIs (s : List ℕ) (at : ℕ) (r : Taken) : Type 0 where
@@ -30,8 +49,29 @@ pub record RiskIs (s : List ℕ) (at limit : ℕ) (r : Risk) : Type 0 where
   pub limited : r .limited ≡ limitedOf limit (claimsAt s at)
   pub next : r .next .at ≡ pastRisk s at
 
--- the first n risks from the place `at` on
-pub record WalkIs (s : List ℕ) (at n limit : ℕ) (r : Walked) : Type 0 where
-  pub end : r .end .at ≡ pastRisks s at n
-  pub claims : r .claims ≡ sum (countsFrom s at n)
-  pub losses : LossesAre (lossesFrom s limit at n) (r .losses)
+-- ---- the running sums: 'after each risk it is the sum of A so far'
+
+-- over the first k risks of the file s: the number of claims, the sum of L, the sum of A, and the place of risk k + 1
+pub record SumsAre (s : List ℕ) (limit k : ℕ) (r : SumsSoFar) : Type 0 where
+  pub risks : r .risks ≡ k
+  pub claims : r .claims ≡ sum (countsFrom s headerBits k)
+  pub total : r .total ≡ SL (lossesFrom s limit headerBits k)
+  pub limited : r .limited ≡ SA (lossesFrom s limit headerBits k)
+  pub next : r .next .at ≡ pastRisks s headerBits k
+
+-- risk k + 1 passed: its own L and A, and the sums over the first k + 1
+pub record RiskPassed (s : List ℕ) (limit k : ℕ) (r : PassedRisk) : Type 0 where
+  pub total : r .total ≡ totalOf (claimsAt s (pastRisks s headerBits k))
+  pub limited : r .limited ≡ limitedOf limit (claimsAt s (pastRisks s headerBits k))
+  pub sums : SumsAre s limit (k + 1) (r .sums)
+
+-- by the counts of the first n risks: where they end, and how many claims they have
+pub record CountedIs (s : List ℕ) (n : ℕ) (r : Counted) : Type 0 where
+  pub end : r .end .at ≡ pastRisks s headerBits n
+  pub claims : r .claims ≡ sum (countsFrom s headerBits n)
+
+-- all of the first n risks
+pub record WalkIs (s : List ℕ) (n limit : ℕ) (r : Walked) : Type 0 where
+  pub end : r .end .at ≡ pastRisks s headerBits n
+  pub claims : r .claims ≡ sum (countsFrom s headerBits n)
+  pub losses : LossesAre (lossesFrom s limit headerBits n) (r .losses)

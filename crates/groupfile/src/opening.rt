@@ -1,15 +1,16 @@
-// A file opened: questions 1 to 9, 18 in its place among them, with all that Read, Rate and Table take from it. Every call on a
-// file passes this gate first; it needs no buffer.
+// A file opened: questions 1 to 9, 18 in its place among them, with all that Rate and Table take from it, or, as its outline, with
+// all that Read takes. Every call on a file passes this gate first; it needs no buffer.
 ghost use mathlib.Core.Path.{_≡_};
 ghost use Rattle.plan.specs.File.{endOf};
 ghost use Rattle.plan.specs.Questions.{firstNo, endQuestions, fileQuestions};
 ghost use Rattle.group.specs.Values.{verdictIs};
 ghost use Rattle.groupfile.specs.Header.{FileHeaderIs};
-ghost use Rattle.groupfile.specs.Opening.{OpenedIs};
+ghost use Rattle.groupfile.specs.Opening.{OpenedIs, OutlineIs};
 use crate::header::FileHeader;
 use crate::header::header_of;
 use crate::header::header_verdict;
 use bits::BitPlace;
+use claims::walk::count_claims;
 use claims::walk::walk;
 use group::GroupLosses;
 use group::Header;
@@ -30,6 +31,14 @@ pub struct Opened {
     pub header: Header,
     pub run: RiskRun,
     pub losses: GroupLosses,
+}
+
+// The same without the losses, and n in their place.
+pub struct Outline {
+    pub verdict: Verdict,
+    pub header: Header,
+    pub risks: u32,
+    pub run: RiskRun,
 }
 
 // Questions 8 and 9 of a file whose last field ends at a place.
@@ -87,5 +96,27 @@ pub fn open(file: &[u8]) -> Opened
             claims: walked.claims,
         },
         losses,
+    }
+}
+
+// The outline of a file of whatever bytes: the same questions, for a call that needs no losses. They are asked without a look at a
+// claim, since the counts say where the last field ends.
+pub fn open_outline(file: &[u8]) -> Outline
+    ensures { λ r. ⌜ OutlineIs (fileQuestions (now (file .entry))) (now (file .entry)) r ⌝ }
+{
+    let header = header_of(file);
+    let values = header.values;
+    let first = header.next;
+    let risks = header.risks;
+    let counted = count_claims(file, first, risks);
+    let verdict = file_verdict(file, header, counted.end);
+    Outline {
+        verdict,
+        header: values,
+        risks,
+        run: RiskRun {
+            first,
+            claims: counted.claims,
+        },
     }
 }

@@ -2,16 +2,16 @@
 -- k + 1 risks: the sums so far. No A is above its L, and sizes are bounded item by item. Assumes nothing.
 use mathlib.Core.Path.{_≡_, refl, sym, ap, _∙_}
 use mathlib.Core.List.{List, [], _∷_, _++_, map, map-append}
-use Prim.Native.Nat.{ℕ, zero, suc, _+_, _*_, _≤_}
+use Prim.Native.Nat.{ℕ, zero, suc, _+_, _*_, _≤_, _<_, min}
 use native.Mathlib.Omega.{arith}
-use lib.ListN.{length, length-map}
+use lib.ListN.{length, take, length-map}
 use Rattle.plan.specs.Arithmetic.{sum, sumOf}
 use Rattle.plan.specs.Sizes.{largestClaim, mostClaims, mostRiskLosses}
 use Rattle.plan.specs.Header.{headerOf, headerBits, riskCount}
 use Rattle.plan.specs.Claim.{claimAt, pastClaim, claimsFrom, pastClaims}
 use Rattle.plan.specs.Risk.{countAt, firstClaim, claimsAt, pastRisk, risksFrom, pastRisks}
 use Rattle.plan.specs.File.{risksOf}
-use Rattle.plan.specs.Losses.{Losses, limitedTo, totalOf, limitedOf, lossesOf, SL, SA, lossesFrom, lossesIn}
+use Rattle.plan.specs.Losses.{Losses, limitedTo, totalOf, limitedOf, lossesOf, SL, SA, lossesFrom, lossesIn, lossesSoFar}
 use Rattle.plan.proofs.Sums.{sum-le, sum-map, sum-append}
 use Rattle.plan.proofs.Claims.{claim-le, claims-more}
 use Rattle.plan.proofs.Risks.{count-le, length-risks, risks-more}
@@ -21,6 +21,11 @@ use Rattle.plan.proofs.Risks.{count-le, length-risks, risks-more}
 pub limited-le : (limit x : ℕ) → limitedTo limit x ≤ x
 limited-le zero x = omega arith
 limited-le (suc l) x = omega arith
+
+-- of claims, the limit leaves what it leaves of the largest one, and of a lesser one the claim itself
+pub most-limited : (limit claim : ℕ) → claim ≤ largestClaim → min claim (limitedTo limit largestClaim) ≡ limitedTo limit claim
+most-limited zero claim h = omega arith
+most-limited (suc l) claim h = omega arith
 
 pub limited-total : (limit : ℕ) (claims : List ℕ) → limitedOf limit claims ≤ totalOf claims
 unfolding limitedOf
@@ -88,3 +93,20 @@ length-losses s = length-losses-from s (headerOf s .lossLimit) headerBits (riskC
 pub SL-le : (s : List ℕ) (limit at n : ℕ) → SL (lossesFrom s limit at n) ≤ mostRiskLosses * n
 SL-le s limit at zero = omega arith
 SL-le s limit at (suc n) = omega (arith, risk-total-le s at, SL-le s limit (pastRisk s at) n)
+
+-- ---- the first risks of a file by their number
+
+-- the first k of n risks from a place on are the k risks from there on
+pub first-losses : (s : List ℕ) (limit at k n : ℕ) → k ≤ n → take k (lossesFrom s limit at n) ≡ lossesFrom s limit at k
+first-losses s limit at zero n h = refl
+first-losses s limit at (suc k) zero h = absurd (omega arith)
+first-losses s limit at (suc k) (suc n) h =
+    ap (λ (rs : List Losses). lossesOf limit (claimsAt s at) ∷ rs) (first-losses s limit (pastRisk s at) k n (omega arith))
+
+-- so the losses so far are those that a walk meets, for any k up to n
+pub losses-are-so-far : (s : List ℕ) (k : ℕ) → k ≤ riskCount s → lossesFrom s (headerOf s .lossLimit) headerBits k ≡ lossesSoFar s k
+losses-are-so-far s k h = sym (first-losses s (headerOf s .lossLimit) headerBits k (riskCount s) h)
+
+-- and after the last risk they are all
+pub all-so-far : (s : List ℕ) → lossesSoFar s (riskCount s) ≡ lossesIn s
+all-so-far s = sym (losses-are-so-far s (riskCount s) (omega arith))

@@ -2,6 +2,7 @@
 -- SL and SA are their sums over the group.' All later steps speak of the header and of the list of losses only.
 use mathlib.Core.List.{List, map}
 use Prim.Native.Nat.{ℕ, zero, suc, min}
+use lib.ListN.{take}
 use Rattle.plan.specs.Arithmetic.{sum, sumOf}
 use Rattle.plan.specs.Header.{headerOf, headerBits, riskCount}
 use Rattle.plan.specs.Risk.{risksFrom}
@@ -45,3 +46,9 @@ lossesFrom s limit at n = map (lossesOf limit) (risksFrom s at n)
 -- the losses of each risk of a file
 abbrev pub lossesIn : List ℕ → List Losses
 lossesIn s = lossesFrom s (headerOf s .lossLimit) headerBits (riskCount s)
+
+-- ---- job 3: 'keep a running sum while the claims are read, and show that after each risk it is the sum of A so far'
+
+-- the losses of the first k risks of a file: the sums so far are SL and SA of them
+abbrev pub lossesSoFar : List ℕ → ℕ → List Losses
+lossesSoFar s k = take k (lossesIn s)

@@ -1,5 +1,5 @@
-// Read: a file's header values, claim counts and claims. The claims are gone over a second time, to store them, after every
-// question is decided.
+// Read: a file's header values, claim counts and claims. The questions are decided by the counts; then the claims are gone over, once,
+// to store them.
 ghost use mathlib.Core.Path.{_≡_};
 ghost use Prim.Native.Nat.{_+_, _≤_};
 ghost use lib.ListN.{length};
@@ -15,7 +15,7 @@ use claims::claim::reach_of;
 use claims::walk::count_at;
 use group::Header;
 use group::Verdict;
-use groupfile::opening::open;
+use groupfile::opening::open_outline;
 
 // What Read gives beside the buffers: the number of risks and the header values.
 pub struct ReadValues {
@@ -82,9 +82,9 @@ pub fn read(file: &[u8], counts: &mut [u8], claims: &mut [u32]) -> GroupRead
         ReadSays (now (file .entry)) (now (counts .entry)) (now (claims .entry)) r (now (counts .exit)) (now (claims .exit))
         ⌝ }
 {
-    let opened = open(file);
+    let opened = open_outline(file);
     let verdict = opened.verdict;
-    let risks = opened.losses.risks;
+    let risks = opened.risks;
     let run = opened.run;
     match verdict {
         Verdict::Failed(k) => GroupRead::Refused(k),

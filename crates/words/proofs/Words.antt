@@ -34,21 +34,30 @@ joins i n p q w = record { narrow = w .1; fits = q; room = lt-of-lt-of-le (shl-l
 pub joined-lt : (i n k : ℕ) {h l : ℕ} → h < 2 ^ i → l < 2 ^ n → i + n ≤ k → h * 2 ^ n + l < 2 ^ k
 joined-lt i n k p q w = lt-of-lt-of-le (rw (pow-add 2 i n) (digits-lt p q)) (pow-mono w)
 
--- shifted to the left by s in 64 bits, then to the right, x is its w bits after the s highest
+-- shifted to the left by s in 64 bits, x has on its front its w bits after the s highest
+pub front-after : (x s w : ℕ) → s + w ≤ 64 → (x * 2 ^ s) % 2 ^ 64 / 2 ^ (64 - w) ≡ x / 2 ^ (64 - s - w) % 2 ^ w
+front-after x s w h =
+    let k : ℕ = 64 - w in
+    let rest : ℕ = 64 - s - w in
+    let all : 64 ≡ w + k = omega arith in
+    let drop : k ≡ s + rest = omega arith in
+    ap (λ (j : ℕ). (x * 2 ^ s) % 2 ^ j / 2 ^ k) all
+    ∙ field-of (x * 2 ^ s) w k
+    ∙ ap (λ (j : ℕ). x * 2 ^ s / 2 ^ j % 2 ^ w) drop
+    ∙ ap (λ (y : ℕ). y % 2 ^ w) (sym (shr-shr (x * 2 ^ s) s rest))
+    ∙ ap (λ (y : ℕ). y / 2 ^ rest % 2 ^ w) (shl-shr x s)
+
+-- the same by two shifts to the right
 pub after-skip : (x s w : ℕ) → s < 8 → w ≤ 32
     → (x * 2 ^ s) % 2 ^ 64 / 2 ^ 1 / 2 ^ (63 - w) ≡ x / 2 ^ 1 / 2 ^ (63 - s - w) % 2 ^ w
 after-skip x s w p q =
-    let k : ℕ = 1 + (63 - w) in
-    let rest : ℕ = 63 - s - w in
-    let all : 64 ≡ w + k = omega arith in
-    let drop : k ≡ s + (1 + rest) = omega arith in
+    let rest : 64 - s - w ≡ 1 + (63 - s - w) = omega arith in
+    let k : 1 + (63 - w) ≡ 64 - w = omega arith in
     shr-shr ((x * 2 ^ s) % 2 ^ 64) 1 (63 - w)
-    ∙ ap (λ (j : ℕ). (x * 2 ^ s) % 2 ^ j / 2 ^ k) all
-    ∙ field-of (x * 2 ^ s) w k
-    ∙ ap (λ (j : ℕ). x * 2 ^ s / 2 ^ j % 2 ^ w) drop
-    ∙ ap (λ (y : ℕ). y % 2 ^ w) (sym (shr-shr (x * 2 ^ s) s (1 + rest)))
-    ∙ ap (λ (y : ℕ). y / 2 ^ (1 + rest) % 2 ^ w) (shl-shr x s)
-    ∙ ap (λ (y : ℕ). y % 2 ^ w) (sym (shr-shr x 1 rest))
+    ∙ ap (λ (j : ℕ). (x * 2 ^ s) % 2 ^ 64 / 2 ^ j) k
+    ∙ front-after x s w (omega arith)
+    ∙ ap (λ (j : ℕ). x / 2 ^ j % 2 ^ w) rest
+    ∙ ap (λ (y : ℕ). y % 2 ^ w) (sym (shr-shr x 1 (63 - s - w)))
 
 -- the bits of x above its `left` lowest, and the n next, are those above its left - n lowest
 pub next-bits : (x left n : ℕ) → n ≤ left

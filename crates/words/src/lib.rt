@@ -25,6 +25,14 @@ pub fn bits_after(word: u64, skip: u32, n: u32) -> u64
     ((word << skip) >> 1) >> (63 - n)
 }
 
+// The n highest bits of a word.
+pub fn highest(word: u64, n: u32) -> u64
+    requires { ⌜ (0 < n) × (n ≤ 64) ⌝ }
+    ensures { λ r. ⌜ r ≡ word / 2 ^ (64 - n) ⌝ }
+{
+    word >> (64 - n)
+}
+
 // The 64 bits from byte i on, which end at byte `reach` or before.
 pub fn word_within(file: &[u8], i: usize, reach: usize) -> u64
     requires { ⌜ (i < 2 ^ 61) × (i + 8 ≤ reach) ⌝ }

@@ -14,7 +14,6 @@ use Rattle.plan.specs.File.{countsOf}
 use Rattle.plan.specs.Questions.{passed, firstNo, fileQuestions}
 use Rattle.plan.specs.Calls.{filled}
 use Rattle.plan.proofs.Tests.{and-yes, and-first-no, and-second-no}
-use Rattle.plan.proofs.Losses.{length-losses}
 use Rattle.plan.proofs.FileSizes.{risks-le}
 use Rattle.group.specs.Values.{verdictIs}
 use Rattle.group.specs.declared.Verdict.the-variants.{Passed, Failed}
@@ -25,11 +24,11 @@ use Rattle.reading.proofs.read.Tie as tie
 
 -- ---- the places of the code
 
-abbrev start : tie.After-open → tie.Start
+abbrev start : tie.After-open-outline → tie.Start
 start o = o .before .before .before .before
 
 -- past the gate
-abbrev opened : tie.After-enum-told → tie.After-open
+abbrev opened : tie.After-enum-told → tie.After-open-outline
 opened p = p .before .before .before
 
 -- with room for the counts
@@ -40,7 +39,7 @@ counts-fit c = c .before .before
 abbrev gate : tie.Else2 → tie.After-enum-told
 gate c = c .before .before .before
 
-abbrev file : tie.After-open → List ℕ
+abbrev file : tie.After-open-outline → List ℕ
 file o = start o .args .file .now
 
 -- ---- what is known there
@@ -48,11 +47,11 @@ file o = start o .args .file .now
 passes : (p : tie.After-enum-told) → firstNo (fileQuestions (file (opened p))) ≡ passed
 passes p =
     let o = opened p in
-    let e : o .«open» .result .verdict ≡ Passed = cc in
-    sym (o .«open» .ensures .verdict) ∙ ap verdictIs e
+    let e : o .open-outline .result .verdict ≡ Passed = cc in
+    sym (o .open-outline .ensures .verdict) ∙ ap verdictIs e
 
-risks : (o : tie.After-open) → o .«open» .result .losses .risks ≡ riskCount (file o)
-risks o = o .«open» .ensures .losses .risks ∙ length-losses (file o)
+risks : (o : tie.After-open-outline) → o .open-outline .result .risks ≡ riskCount (file o)
+risks o = o .open-outline .ensures .risks
 
 room : (c : tie.Else2)
     → let o = opened (gate c) in
@@ -63,13 +62,13 @@ room c =
       place = omega arith;
       few = risks-le (file o);
       counts = omega (arith, c .before .before .if1 .left, risks o);
-      claims = omega (arith, c .if2 .left, o .«open» .ensures .run .claims);
+      claims = omega (arith, c .if2 .left, o .open-outline .ensures .run .claims);
     }
 
 -- ---- the needs
 
-open-requires : tie.Need-open-requires
-open-requires c κs = search needs
+open-outline-requires : tie.Need-open-outline-requires
+open-outline-requires c κs = search needs
 
 enum-known-verdict : tie.Need-enum-known-verdict
 enum-known-verdict c = search needs
@@ -97,7 +96,7 @@ returns-2 c =
     let o = opened (r .before) in
     let a = start o .args in
     let enough : riskCount (a .file .now) ≤ length (a .counts .now) = omega (arith, r .if1 .left, risks o) in
-    let few : length (a .claims .now) < sum (countsOf (a .file .now)) = omega (arith, c .if2 .taken, o .«open» .ensures .run .claims) in
+    let few : length (a .claims .now) < sum (countsOf (a .file .now)) = omega (arith, c .if2 .taken, o .open-outline .ensures .run .claims) in
     refused-says (a .file .now) (a .counts .now) (a .claims .now)
     (verdict (a .file .now) (a .counts .now) (a .claims .now) (passes (r .before))
     (and-second-no (le-leb _ _ enough) (lt-leb _ _ few)))
@@ -111,15 +110,15 @@ read-risks-requires c κs =
     let o = opened (gate r) in
     let a = start o .args in
     subst₂ (λ (p n : ℕ). RisksRoom (a .file .now) p n (length (a .counts .now)) (length (a .claims .now)))
-    (sym (o .«open» .ensures .run .first)) (sym (risks o)) (room r)
+    (sym (o .open-outline .ensures .run .first)) (sym (risks o)) (room r)
 
 returns-3 : tie.Need-returns-3
 returns-3 c =
     let o = c .before .before .before .before in
     let a = start o .args in
-    let e : o .«open» .result .verdict ≡ Failed (c .before .verdict .given .0 .0) = cc in
+    let e : o .open-outline .result .verdict ≡ Failed (c .before .verdict .given .0 .0) = cc in
     refused-says (a .file .now) (a .counts .now) (a .claims .now)
-    (verdict (a .file .now) (a .counts .now) (a .claims .now) (sym (o .«open» .ensures .verdict) ∙ ap verdictIs e) refl)
+    (verdict (a .file .now) (a .counts .now) (a .claims .now) (sym (o .open-outline .ensures .verdict) ∙ ap verdictIs e) refl)
 
 same-length : tie.Need-same-length
 same-length c = search needs
@@ -134,10 +133,10 @@ returns-4 c =
     let o = opened (gate r) in
     let a = start o .args in
     let s = a .file .now in
-    let f = o .«open» .ensures .run .first in
+    let f = o .open-outline .ensures .run .first in
     given-says s (a .counts .now) (a .claims .now)
     (verdict s (a .counts .now) (a .claims .now) (passes (gate r)) (and-yes (le-leb _ _ (room r .counts)) (le-leb _ _ (room r .claims))))
-    (risks o) (o .«open» .ensures .header)
+    (risks o) (o .open-outline .ensures .header)
     (d .read-risks .ensures .0 ∙ λ i. filled (countsFrom s (f i) (risks o i)) (a .counts .now))
     (d .read-risks .ensures .1 ∙ λ i. filled (allClaims (risksFrom s (f i) (risks o i))) (a .claims .now))
 
@@ -145,7 +144,7 @@ pub read-spec : {M : Type 1} → statement M
 read-spec =
     tie.close
     (tie.spec
-    open-requires
+    open-outline-requires
     enum-known-verdict
     enum-told
     cast-if1

@@ -1,5 +1,5 @@
 -- The walk is that of the file's own n and loss limit, from the header's end on. Assumes nothing.
-use mathlib.Core.Path.{_≡_, ap, _∙_, subst₃}
+use mathlib.Core.Path.{ap, subst₂}
 use Prim.Native.Nat.{ℕ}
 use native.Mathlib.Omega.{arith}
 use borrow.Author.Needs.{needs}
@@ -20,17 +20,17 @@ walk-requires : tie.Need-walk-requires
 walk-requires c κs =
     let h = known c in
     let e = h .header-of .ensures in
-    (omega (arith, e .risks, risks-le (h .before .before .args .file .now)), omega (arith, e .next))
+    (omega (arith, e .risks, risks-le (h .before .before .args .file .now)), e .next)
 
 walked : (c : tie.After-walk)
     → let s = known (c .before) .before .before .args .file .now in
-    WalkIs s plan.headerBits (plan.riskCount s) (plan.headerOf s .lossLimit) (c .walk .result)
+    WalkIs s (plan.riskCount s) (plan.headerOf s .lossLimit) (c .walk .result)
 walked c =
     let h = known (c .before) in
     let s = h .before .before .args .file .now in
     let e = h .header-of .ensures in
-    subst₃ (λ (p n l : ℕ). WalkIs s p n l (c .walk .result)) (e .next) (e .risks)
-    (ap (λ (x : plan.Header). x .lossLimit) (e .values)) (c .walk .ensures)
+    subst₂ (λ (n l : ℕ). WalkIs s n l (c .walk .result)) (e .risks) (ap (λ (x : plan.Header). x .lossLimit) (e .values))
+    (c .walk .ensures)
 
 file-verdict-requires : tie.Need-file-verdict-requires
 file-verdict-requires c κs = (known (c .before) .header-of .ensures, walked c .end)

@@ -1,0 +1,66 @@
+//! Makes one call on a group of the benchmark, so that its instructions can be counted:
+//!
+//!     valgrind --tool=callgrind --toggle-collect=retro_rate cargo-target/release/once rate
+//!
+//! `once CALL [RISKS [CLAIMS]]`: RISKS risks of CLAIMS claims each, without these 255 of 63, which
+//! is the largest file of `bench`. Exit status: 0; 2 for wrong usage.
+//!
+//! The tuned peers are compiled for this machine. Where gcc takes instructions for them that
+//! valgrind does not know, such as those of AVX-512, `objdump -d` shows their loops.
+
+use retro_tests::desk::{Call, Case, Desk};
+use retro_tests::second_rater::{MOST_CLAIMS_PER_RISK, MOST_RISKS};
+use std::env;
+use std::process::ExitCode;
+
+/// The calls by the names that the arguments have for them.
+const CALLS: [(&str, Call); 8] = [
+    ("rate", Call::Rate),
+    ("table", Call::Table),
+    ("read", Call::Read),
+    ("write", Call::Write),
+    ("guaranteed", Call::Guaranteed),
+    ("tuned-rater", Call::TunedRater),
+    ("tuned-reader", Call::TunedReader),
+    ("tuned-writer", Call::TunedWriter),
+];
+
+fn main() -> ExitCode {
+    let arguments: Vec<String> = env::args().skip(1).collect();
+    match asked(&arguments) {
+        Ok((call, risks, claims)) => {
+            let case = Case::new(risks, claims);
+            Desk::new().call(call, &case);
+            ExitCode::SUCCESS
+        }
+        Err(mistake) => {
+            let names = CALLS.map(|(name, _)| name).join(" | ");
+            eprintln!("{mistake}");
+            eprintln!("usage: once CALL [RISKS [CLAIMS]], where CALL is {names}");
+            ExitCode::from(2)
+        }
+    }
+}
+
+/// The call, the number of risks and the number of claims of each that the arguments ask for.
+fn asked(arguments: &[String]) -> Result<(Call, usize, usize), String> {
+    let (name, numbers) = arguments.split_first().ok_or("no call is named")?;
+    let known = CALLS.iter().find(|(known, _)| known == name);
+    let &(_, call) = known.ok_or_else(|| format!("{name} is no call"))?;
+    if let Some(more) = numbers.get(2) {
+        return Err(format!("{more} is an argument too many"));
+    }
+    let number = |k: usize, what: &str, most: usize| match numbers.get(k) {
+        None => Ok(most),
+        Some(word) => {
+            let number = word
+                .parse()
+                .ok()
+                .filter(|number| (1..=most).contains(number));
+            number.ok_or_else(|| format!("{word} is not a number of {what} from 1 to {most}"))
+        }
+    };
+    let risks = number(0, "risks", MOST_RISKS)?;
+    let claims = number(1, "claims", MOST_CLAIMS_PER_RISK)?;
+    Ok((call, risks, claims))
+}

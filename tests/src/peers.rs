@@ -1,0 +1,134 @@
+//! The peers of the benchmark: a tuned rater, a tuned reader and a tuned writer in C (tests/peers).
+//! They are for comparing speed; nothing of them is shipped.
+//!
+//! A peer asks no question and tests no length. So what it is given is a type that is made only of
+//! what the second rater accepts, and what it stores to has room for the largest group: with that
+//! asked and settled before, a call makes no check of its own.
+
+use crate::calls::{Group, Header};
+use crate::second_rater::{self, LARGEST_FILE, MOST_CLAIMS_PER_RISK, MOST_RISKS};
+use crate::straightforward::Rated;
+
+/// The bytes after a file that a peer may load, and the writer set to 0.
+pub const SPARE: usize = 8;
+
+/// Room for the premiums of every group.
+pub type Premiums = [u8; 4 * MOST_RISKS];
+/// Room for the counts of every group.
+pub type Counts = [u8; MOST_RISKS];
+/// Room for the claims of every group.
+pub type Claims = [u32; MOST_RISKS * MOST_CLAIMS_PER_RISK];
+/// Room for every file and the spare bytes after it.
+pub type Written = [u8; LARGEST_FILE + SPARE];
+
+/// The peers as C sees them (tests/peers/peers.h).
+pub mod raw {
+    use super::{Group, Header, Rated};
+
+    extern "C" {
+        pub fn tuned_rate(file: *const u8, premiums: *mut u8) -> Rated;
+        pub fn tuned_read(file: *const u8, counts: *mut u8, claims: *mut u32) -> Group;
+        pub fn tuned_write(
+            header: Header,
+            counts: *const u8,
+            risks: usize,
+            claims: *const u32,
+            file: *mut u8,
+        ) -> usize;
+    }
+}
+
+/// A file that Rate accepts, and so does Read, with spare bytes after it.
+pub struct AcceptedFile {
+    bytes: Vec<u8>,
+}
+
+impl AcceptedFile {
+    /// The file of these bytes. Panics where the second rater refuses it.
+    pub fn new(file: &[u8]) -> AcceptedFile {
+        if let Err(question) = second_rater::rate(file, 4 * MOST_RISKS) {
+            panic!("no file for a peer: refused {question}");
+        }
+        let mut bytes = file.to_vec();
+        bytes.resize(file.len() + SPARE, 0);
+        AcceptedFile { bytes }
+    }
+
+    /// The file alone.
+    pub fn file(&self) -> &[u8] {
+        &self.bytes[..self.bytes.len() - SPARE]
+    }
+}
+
+/// The values of a group that Write accepts.
+pub struct AcceptedGroup {
+    header: Header,
+    counts: Vec<u8>,
+    claims: Vec<u32>,
+}
+
+impl AcceptedGroup {
+    /// The group of these values. Panics where the second rater refuses to write it.
+    pub fn new(header: second_rater::Header, counts: &[u8], claims: &[u32]) -> AcceptedGroup {
+        if let Err(question) = second_rater::write(&header, counts, claims, LARGEST_FILE) {
+            panic!("no group for a peer: refused {question}");
+        }
+        AcceptedGroup {
+            header: header.into(),
+            counts: counts.to_vec(),
+            claims: claims.to_vec(),
+        }
+    }
+
+    pub fn header(&self) -> Header {
+        self.header
+    }
+
+    pub fn counts(&self) -> &[u8] {
+        &self.counts
+    }
+
+    pub fn claims(&self) -> &[u32] {
+        &self.claims
+    }
+}
+
+/// The tuned rater: Rate's numbers, with the premiums at the start of the buffer.
+pub fn rate(file: &AcceptedFile, premiums: &mut Premiums) -> Rated {
+    // SAFETY: the file is accepted and has its spare bytes, and every group's premiums fit.
+    unsafe { raw::tuned_rate(file.bytes.as_ptr(), premiums.as_mut_ptr()) }
+}
+
+/// The tuned reader: the number of risks and the header values, with the counts and the claims at
+/// the start of the buffers.
+pub fn read(file: &AcceptedFile, counts: &mut Counts, claims: &mut Claims) -> Group {
+    // SAFETY: the file is accepted and has its spare bytes, and every group's counts and claims
+    // fit.
+    unsafe {
+        raw::tuned_read(
+            file.bytes.as_ptr(),
+            counts.as_mut_ptr(),
+            claims.as_mut_ptr(),
+        )
+    }
+}
+
+/// The tuned writer: the file's length, with the file at the start of the buffer and up to `SPARE`
+/// zeros after it.
+pub fn write(group: &AcceptedGroup, file: &mut Written) -> usize {
+    let AcceptedGroup {
+        header,
+        counts,
+        claims,
+    } = group;
+    // SAFETY: the values are accepted, and every group's file fits with its spare bytes.
+    unsafe {
+        raw::tuned_write(
+            *header,
+            counts.as_ptr(),
+            counts.len(),
+            claims.as_ptr(),
+            file.as_mut_ptr(),
+        )
+    }
+}
