@@ -4,7 +4,7 @@
 ghost use mathlib.Core.Path.{_≡_};
 ghost use Prim.Native.Nat.{_+_, _-_, _*_, _/_, _%_, _^_, _≤_, _<_};
 ghost use lib.ListN.{length};
-ghost use Rattle.bits.specs.Take.{Reach, Took, Ahead};
+ghost use Rattle.bits.specs.Take.{Reach, Took, FrontReach, FrontTaken};
 ghost use Rattle.bits.specs.Put.{Room, Put, InByte};
 use words::bits_after;
 use words::extract;
@@ -19,6 +19,12 @@ pub struct BitPlace {
 // A field's value, and the place where the field ended.
 pub struct Taken {
     pub value: u32,
+    pub next: BitPlace,
+}
+
+// Bits of a file on the front of a word, its highest, and the place where those that were taken end.
+pub struct Front {
+    pub bits: u64,
     pub next: BitPlace,
 }
 
@@ -49,14 +55,19 @@ impl BitPlace {
         }
     }
 
-    // The bits from this place on as the highest of a word, 57 at the least: fields are then cut from its front one after another,
-    // without another load. The word from the place's byte on ends at byte `reach` or before.
-    pub fn ahead(self, file: &[u8], reach: usize) -> u64
-        requires { ⌜ self .at / 8 + 8 ≤ reach ⌝ }
-        ensures { λ r. ⌜ Ahead (now (file .entry)) (self .at) 57 r ⌝ }
+    // The run of `width` bits at this place, 57 at most, on the front of a word, and the next place: fields are then cut from the
+    // front one after another, without another load. The word ends at byte `reach` or before.
+    pub fn take_front(self, file: &[u8], width: u32, reach: usize) -> Front
+        requires { ⌜ FrontReach (self .at) width reach ⌝ }
+        ensures { λ r. ⌜ FrontTaken (now (file .entry)) (self .at) width r ⌝ }
     {
         let at = self.at;
-        word_within(file, at / 8, reach) << (at % 8) as u32
+        let bits = word_within(file, at / 8, reach) << (at % 8) as u32;
+        let next = at + width as usize;
+        Front {
+            bits,
+            next: BitPlace { at: next },
+        }
     }
 
     // Puts the field of `width` bits at this place, a byte a turn, and gives the next place.

@@ -20,7 +20,7 @@ use Rattle.plan.proofs.Losses.{losses-so-far, SL-so-far, SA-so-far, SL-le, leng
 use Rattle.plan.proofs.Filled.{filled-none}
 use Rattle.group.specs.Values.{firstOf}
 use Rattle.group.proofs.Losses.{first-more}
-use Rattle.bits.specs.Take.{Ahead}
+use Rattle.bits.specs.Take.{Ahead, FrontReach}
 use Rattle.bits.specs.declared.Taken.{Taken}
 use Rattle.bits.specs.declared.BitPlace.{BitPlace}
 use Rattle.bits.proofs.Fronts.{front-is, ahead-past}
@@ -52,10 +52,12 @@ next-reach s {at} {k} {i} {p} e h r =
     let most : p + claimWidth * 0 ≤ at + claimWidth * k = omega (arith, e, past-claims s at i) in
     record { inside = omega (arith, most, r .inside); ends = omega (arith, most, r .ends) }
 
--- the word of the claim after i others of k is in reach
-pub word-reach : {at k i p reach : ℕ} → p ≡ at + claimWidth * i → i ≤ k → ClaimReach at k reach → p / 8 + 8 ≤ reach
-word-reach {at} {k} {i} {p} {reach} e h r =
-    let most : p ≤ at + claimWidth * k = omega (arith, e) in omega (arith, most, r .ends)
+-- and a run that begins there is in reach
+pub front-reach : (s : List ℕ) {at k i p reach : ℕ} (w : ℕ) → p ≡ pastClaims s at i → i ≤ k → w ≤ 57 → ClaimReach at k reach
+    → FrontReach p w reach
+front-reach s {at} {k} {i} {p} {reach} w e h n r =
+    let most : p ≤ at + claimWidth * k = omega (arith, e, past-claims s at i) in
+    record { narrow = n; ends = omega (arith, most, r .ends); next = omega (arith, most, n, r .inside) }
 
 -- of claims from `at` on, i are summed
 pub record Summing (s : List ℕ) (at limit i : ℕ) (r : ClaimSums) : Type 0 where
@@ -93,16 +95,13 @@ module _ {s : List ℕ} {at limit i : ℕ} {r : ClaimSums} (w : Summing s at lim
       }
 
   -- a word from that claim on has it on its front
-  module _ {p word : ℕ} (e : p ≡ at + claimWidth * i) (a : Ahead s p 57 word) where
-    here : p ≡ pastClaims s at i
-    here = e ∙ sym (past-claims s at i)
-
-    pub front-here : frontClaim word ≡ nextClaim
-    front-here = front-claim a (omega arith) ∙ ap (claimAt s) here
+  module _ {p n word : ℕ} (here : p ≡ pastClaims s at i) (a : Ahead s p n word) where
+    pub front-here : claimWidth ≤ n → frontClaim word ≡ nextClaim
+    front-here h = front-claim a h ∙ ap (claimAt s) here
 
     -- and the one behind it after a shift
-    pub front-behind : frontClaim ((word * 2 ^ claimWidth) % 2 ^ 64) ≡ claimAt s (pastClaims s at (i + 1))
-    front-behind = front-next a (omega arith) ∙ ap (claimAt s) (ap (pastClaim s) here ∙ sym (past-more s at i))
+    pub front-behind : 2 * claimWidth ≤ n → frontClaim ((word * 2 ^ claimWidth) % 2 ^ 64) ≡ claimAt s (pastClaims s at (i + 1))
+    front-behind h = front-next a h ∙ ap (claimAt s) (ap (pastClaim s) here ∙ sym (past-more s at i))
 
 -- ---- the risks of a file
 

@@ -12,7 +12,7 @@ use words::highest;
 // Bits of a claim, and of two.
 pub const CLAIM_WIDTH: u32 = 20;
 
-pub const PAIR_WIDTH: usize = 40;
+pub const PAIR_WIDTH: u32 = 40;
 
 // The largest claim.
 pub const LARGEST_CLAIM: u32 = 1048575;
@@ -55,7 +55,11 @@ pub fn limited_ahead(word: u64, most: u32) -> u32
     requires { ⌜ most ≤ largestClaim ⌝ }
     ensures { λ r. ⌜ r ≡ min (frontClaim word) most ⌝ }
 {
-    if word < (most as u64) << (64 - CLAIM_WIDTH) { claim_ahead(word) } else { most }
+    if word < (most as u64) << (64 - CLAIM_WIDTH) {
+        claim_ahead(word)
+    } else {
+        most
+    }
 }
 
 // Puts a claim, and gives the place after it.

@@ -102,30 +102,25 @@ pub fn claims_at(file: &[u8], place: BitPlace, count: u32, limit: u32) -> Risk
 {
     let reach = reach_of(place, count);
     let most = limited_to(limit, LARGEST_CLAIM);
-    let at = place.at;
-    let k = count as usize;
-    let pairs = k / 2;
+    let pairs = count / 2;
     let mut sums = ClaimSums {
         total: 0,
         limited: 0,
     };
-    let mut i: usize = 0;
+    let mut next = place;
+    let mut i: u32 = 0;
     while i < pairs {
-        let pair = BitPlace {
-            at: at + PAIR_WIDTH * i,
-        };
-        let word = pair.ahead(file, reach);
-        sums = add_claim(sums, word, most);
-        sums = add_claim(sums, word << CLAIM_WIDTH, most);
+        let pair = next.take_front(file, PAIR_WIDTH, reach);
+        sums = add_claim(sums, pair.bits, most);
+        sums = add_claim(sums, pair.bits << CLAIM_WIDTH, most);
+        next = pair.next;
         i += 1;
     }
-    if k % 2 == 1 {
-        let last = BitPlace {
-            at: at + PAIR_WIDTH * pairs,
-        };
-        sums = add_claim(sums, last.ahead(file, reach), most);
+    if count % 2 == 1 {
+        let last = next.take_front(file, CLAIM_WIDTH, reach);
+        sums = add_claim(sums, last.bits, most);
+        next = last.next;
     }
-    let next = past_claims(place, count);
     Risk {
         count,
         total: sums.total,

@@ -28,8 +28,7 @@ pass-risk-requires : tie.Need-pass-risk-requires Inv-loop μ-loop
 pass-risk-requires c κs =
     let l = c .before .loop in
     let a = c .before .before .before .args in
-    let w = l .inv .1 in
-    (
+    let w = l .inv .1 in (
       subst (λ (k : ℕ). SumsAre (a .file .now) (a .limit) k (l .sums)) (sym (w .risks)) w,
       omega (arith, w .risks, c .loop-test .taken, c .before .before .before .pre .0),
     )
