@@ -64,18 +64,17 @@ fn counts_add(counts: &[u8], claims: usize) -> bool
     total == claims
 }
 
-// Whether the claims fit their width.
+// Whether the claims fit their width: all are looked at, with no way out of the loop, so that several can be at once.
 fn claims_fit(claims: &[u32]) -> bool
     ensures { λ r. ⌜ r ≡ claimsFit (now (claims .entry)) ⌝ }
 {
+    let mut fit = true;
     let mut i = 0;
     while i < claims.len() {
-        if !claim_fits(claims[i]) {
-            return false;
-        }
+        fit = fit & claim_fits(claims[i]);
         i += 1;
     }
-    true
+    fit
 }
 
 // Question 15. Claims are looked at only where there are as many as the counts add to.
