@@ -3,6 +3,7 @@ pub mod Fronts
 pub mod Places
 pub mod Puts
 pub mod Runs
+pub mod Regrouped
 pub mod WholeBytes
 mod OneByte
 mod Parts

@@ -1,12 +1,13 @@
 -- A field put part by part, a byte's bits at a time: two puts, one after the other, are one. Assumes nothing.
-use mathlib.Core.Path.{_≡_, refl, sym, ap, _∙_, subst, subst₂}
+use mathlib.Core.Path.{_≡_, refl, sym, ap, ap₂, _∙_, subst, subst₂}
 use mathlib.Core.List.{List}
 use Prim.Native.Nat.{ℕ, _+_, _-_, _*_, _/_, _%_, _^_, _≤_, _<_}
 use native.Mathlib.Nat.{div-eq-of-lt, div-one}
 use native.Mathlib.Omega.{arith}
+use lib.Pow.{recompose}
 use Rattle.bits.specs.Put.{Put, InByte}
 use Rattle.words.proofs.Words.{next-bits}
-use Rattle.bits.proofs.Puts.{put-none, put-put}
+use Rattle.bits.proofs.Puts.{put-none, put-put, put-put-back}
 
 -- t has all bits of the value but the `left` lowest
 pub record PutSoFar (s : List ℕ) (at₀ width value : ℕ) (t : List ℕ) (at left : ℕ) : Type 0 where
@@ -45,6 +46,16 @@ pub ends : {s : List ℕ} {at₀ width value : ℕ} {t : List ℕ} {at left : �
 ends {s} {at₀} {width} {value} {t} {at} {left} p e =
     let all : width - left ≡ width = omega arith in
     subst₂ (λ (w v : ℕ). Put s at₀ w v t) all (ap (λ (k : ℕ). value / 2 ^ k) e ∙ div-one value) (p .done)
+
+-- a field put in two, the low bits of the value first
+pub low-first : {s t u : List ℕ} {at v w value a b : ℕ} → value < 2 ^ (v + w)
+    → b ≡ value % 2 ^ w → Put s (at + v) w b t
+    → a ≡ value / 2 ^ w % 2 ^ v → Put t at v a u
+    → Put s at (v + w) value u
+low-first {s} {t} {u} {at} {v} {w} {value} h eb p ea q =
+    subst (λ (x : ℕ). Put s at (v + w) x u)
+    (ap₂ (λ (x y : ℕ). x * 2 ^ w + y) ea eb ∙ recompose v w h)
+    (put-put-back p q)
 
 -- four whole bytes, one after another, are a field of 32 bits
 whole : (at left : ℕ) → 8 ≤ left → at % 8 ≡ 0 → InByte at left 8

@@ -15,6 +15,11 @@ pub put-before : {s t : List ℕ} {at w v : ℕ} → Put s at w v t
     → (from n : ℕ) → from + n ≤ at → field t from n ≡ field s from n
 put-before {s} {t} p from n h = field-same t s from n (λ k lo hi. p .before k (omega arith))
 
+-- and a field after it
+pub put-after : {s t : List ℕ} {at w v : ℕ} → Put s at w v t
+    → (from n : ℕ) → at + w ≤ from → field t from n ≡ field s from n
+put-after {s} {t} p from n h = field-same t s from n (λ k lo hi. p .after k (omega arith))
+
 -- a put of no bits leaves all as it was
 pub put-none : (s : List ℕ) (at : ℕ) → Put s at 0 0 s
 put-none s at = record { same = refl; here = field-none s at; before = λ k h. refl; after = λ k h. refl }
@@ -27,6 +32,17 @@ put-put {s} {t} {u} {at} {v} {a} {w} {b} p q =
       same = q .same ∙ p .same;
       here = field-split u at v w ∙ ap₂ (λ (x y : ℕ). x * 2 ^ w + y) first (q .here);
       before = λ k h. q .before k (omega arith) ∙ p .before k h;
+      after = λ k h. q .after k (omega arith) ∙ p .after k (omega arith);
+    }
+
+-- and so they are where the second of the two was put before the first
+pub put-put-back : {s t u : List ℕ} {at v a w b : ℕ} → Put s (at + v) w b t → Put t at v a u
+    → Put s at (v + w) (a * 2 ^ w + b) u
+put-put-back {s} {t} {u} {at} {v} {a} {w} {b} p q =
+    let second : field u (at + v) w ≡ b = put-after q (at + v) w (omega arith) ∙ p .here in record {
+      same = q .same ∙ p .same;
+      here = field-split u at v w ∙ ap₂ (λ (x y : ℕ). x * 2 ^ w + y) (q .here) second;
+      before = λ k h. q .before k h ∙ p .before k (omega arith);
       after = λ k h. q .after k (omega arith) ∙ p .after k (omega arith);
     }
 

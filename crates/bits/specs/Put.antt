@@ -12,6 +12,13 @@ pub record Room (s : List ℕ) (at w v : ℕ) : Type 0 where
   pub within : at + w ≤ 8 * length s
   pub fits : v < 2 ^ w
 
+-- the bytes s have five whole bytes at the place `at`, and v is a number of 40 bits
+pub record FiveBytes (s : List ℕ) (at v : ℕ) : Type 0 where
+  pub begins : at % 8 ≡ 0
+  pub next : at + 40 < 2 ^ 64
+  pub within : at + 40 ≤ 8 * length s
+  pub fits : v < 2 ^ 40
+
 -- v put in w bits of the bytes s at the place `at` leaves t: the field there is v, every other bit is as it was
 pub record Put (s : List ℕ) (at w v : ℕ) (t : List ℕ) : Type 0 where
   pub same : length t ≡ length s

@@ -5,7 +5,7 @@ ghost use mathlib.Core.Path.{_≡_};
 ghost use Prim.Native.Nat.{_+_, _-_, _*_, _/_, _%_, _^_, _≤_, _<_};
 ghost use lib.ListN.{length};
 ghost use Rattle.bits.specs.Take.{Reach, Took, FrontReach, FrontTaken};
-ghost use Rattle.bits.specs.Put.{Room, Put, InByte};
+ghost use Rattle.bits.specs.Put.{Room, FiveBytes, Put, InByte};
 use words::bits_after;
 use words::extract;
 use words::insert;
@@ -100,6 +100,20 @@ impl BitPlace {
         put_in_byte(out, at + 16, 8, extract(v, 8, 8));
         put_in_byte(out, at + 24, 8, extract(v, 0, 8));
         BitPlace { at: at + 32 }
+    }
+
+    // Puts a field of 40 bits that begins with a byte: five whole bytes. The last four come first, since as four stores in
+    // a row they can compile to one.
+    pub fn put_five(self, out: &mut [u8], value: u64) -> BitPlace
+        requires { ⌜ FiveBytes (now out) (self .at) value ⌝ }
+        ensures next { λ r. ⌜ r .at ≡ self .at + 40 ⌝ }
+        ensures put { λ r. ⌜ Put (now (out .entry)) (self .at) 40 value (now (out .exit)) ⌝ }
+    {
+        let at = self.at;
+        let second = BitPlace { at: at + 8 };
+        let next = second.put_bytes(out, extract(value, 0, 32) as u32);
+        put_in_byte(out, at, 8, extract(value, 32, 8));
+        next
     }
 }
 

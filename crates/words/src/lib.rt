@@ -144,7 +144,7 @@ fn between(old: u8, low: u32, n: u32, part: u64) -> u8
 }
 
 // `high` with the n bits of `low` after it.
-fn join(high: u64, n: u32, low: u64) -> u64
+pub fn join(high: u64, n: u32, low: u64) -> u64
     requires { ⌜ Joins high n low ⌝ }
     ensures { λ r. ⌜ r ≡ high * 2 ^ n + low ⌝ }
 {
