@@ -11,7 +11,7 @@ ghost use Rattle.bits.specs.Runs.{Space, Wrote};
 ghost use Rattle.group.specs.Values.{headerIs};
 ghost use Rattle.putting.specs.Putting.{firstSlots, lastSlots, slotsOfRisk, Ready};
 use bits::BitPlace;
-use claims::claim::put_claim;
+use claims::pairs::put_claims;
 use claims::walk::COUNT_WIDTH;
 use group::Header;
 use groupfile::header::CONVERSION_WIDTH;
@@ -57,13 +57,8 @@ fn put_risk(out: &mut [u8], place: BitPlace, claims: &[u32]) -> BitPlace
     ensures { λ r. ⌜ Wrote (now (out .entry)) (place .at) (slotsOfRisk (now (claims .entry)))
         (now (out .exit)) (r .at) ⌝ }
 {
-    let mut next = place.put(out, COUNT_WIDTH, claims.len() as u32);
-    let mut i = 0;
-    while i < claims.len() {
-        next = put_claim(out, next, claims[i]);
-        i += 1;
-    }
-    next
+    let next = place.put(out, COUNT_WIDTH, claims.len() as u32);
+    put_claims(out, next, claims)
 }
 
 // Puts the risks, each with as many of the claims as its count says.
