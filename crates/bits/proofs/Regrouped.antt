@@ -3,15 +3,15 @@
 -- So a field may be put in parts that are not its own. Assumes nothing.
 use mathlib.Core.Path.{_≡_, refl, sym, ap, ap₂, _∙_, subst}
 use mathlib.Core.List.{List, _∷_}
-use Prim.Native.Nat.{ℕ, _+_, _*_, _/_, _%_, _^_, _≤_, _<_}
+use Prim.Native.Nat.{ℕ, _+_, _*_, _/_, _%_, _^_, _<_}
 use native.Mathlib.Nat.{mod-lt}
 use native.Mathlib.Decide.{decLt}
 use native.Mathlib.Omega.{arith}
 use lib.Pow.{pow-pos, shr-lt, split, high, low}
-use Rattle.plan.specs.Field.{bit, field, Slot, slot, totalWidth, Laid, Fitting}
+use Rattle.plan.specs.Field.{field, Slot, slot, totalWidth, Laid, Fitting}
 use Rattle.plan.proofs.Fields.{by-cases, field-lt, field-split, field-bits}
 use Rattle.words.proofs.Words.{joined-lt}
-use Rattle.bits.specs.Runs.{Space, Wrote}
+use Rattle.bits.specs.Runs.{Space}
 use Rattle.bits.proofs.Runs.{Putting}
 
 -- ---- two fields as one

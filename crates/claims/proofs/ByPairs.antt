@@ -13,19 +13,23 @@ use Rattle.plan.specs.Claim.{claimWidth, slotsOfClaim, slotsOfClaims}
 use Rattle.plan.proofs.Rests.{rest-more}
 use Rattle.bits.specs.Put.{FiveBytes, Put}
 use Rattle.bits.specs.Runs.{Space, Wrote}
-use Rattle.bits.proofs.Runs.{Putting, putting-as, putting-more, putting-run, putting-ends}
+use Rattle.bits.proofs.Runs.{Putting, putting-as, putting-more, putting-ends}
 use Rattle.bits.proofs.Regrouped.{putting-both, putting-two, putting-starts-before}
 
--- the bits of a pair
+-- the bits of a pair, and its bytes
 abbrev pairWidth : ℕ
 pairWidth = claimWidth + claimWidth
 
--- at the loop's head: of the bits before byte `byte` the last `skip` of the run's are held, and the claims from i on are left
+abbrev pairBytes : ℕ
+pairBytes = pairWidth / 8
+
+-- at the loop's head: all before byte `byte` is put; the first `skip` bits of that byte are held, and then come the claims
+-- from i on
 pub record Pairs (s : List ℕ) (at : ℕ) (claims t : List ℕ) (skip byte held i : ℕ) : Type 0 where
   pub within : i ≤ length claims
   pub putting : Putting s at (slotsOfClaims claims) t (8 * byte) (slot skip held ∷ slotsOfClaims (drop i claims))
 
--- at the first, the bits that are held are those of the byte where the run begins
+-- at the first, the bits that are held are those that the byte has before the run
 pub pairs-start : {s : List ℕ} {at : ℕ} {claims : List ℕ} {skip byte held : ℕ} → Space s at (slotsOfClaims claims)
     → 8 * byte + skip ≡ at → held ≡ field s (8 * byte) skip → Pairs s at claims s skip byte held 0
 pairs-start {s} {at} {claims} {skip} {byte} {held} p e h = record {
@@ -42,12 +46,14 @@ unfolding slotsOfClaim
 pair-slots a b claims = refl
 
 module _ {s : List ℕ} {at : ℕ} {claims t : List ℕ} {skip byte held i : ℕ} (g : Pairs s at claims t skip byte held i) where
+  -- the bits that are held are a number of a byte
   pub held-fits : skip < 8 → held < 2 ^ 8
   held-fits few = lt-of-lt-of-le (g .putting .space .fitting .0) (pow-mono {i = skip} {j = 8} (omega arith))
 
   -- ---- with two claims left at least
 
   module _ (h : i + 1 < length claims) where
+    -- the two, and the fields after them
     abbrev one : ℕ
     one = getD claims i 0
 
@@ -64,12 +70,14 @@ module _ {s : List ℕ} {at : ℕ} {claims t : List ℕ} {skip byte held i : ℕ
         ∙ ap (λ (l : List ℕ). one ∷ l)
         (rest-more claims (i + 1) h ∙ ap (λ (k : ℕ). two ∷ drop k claims) after)
 
+    -- each by itself
     apart : Putting s at (slotsOfClaims claims) t (8 * byte) (slot skip held ∷ slot claimWidth one ∷ slot claimWidth two ∷ rest)
     apart =
         putting-as (g .putting)
         (ap (λ (l : List ℕ). slot skip held ∷ slotsOfClaims l) next-two
         ∙ ap (λ (l : List Slot). slot skip held ∷ l) (pair-slots one two (drop (i + 2) claims)))
 
+    -- what the word asks for
     pub pair-fits : skip < 8 → (held < 2 ^ 8) × (one < 2 ^ claimWidth) × (two < 2 ^ claimWidth)
     pair-fits few = let fit = apart .space .fitting in (held-fits few, fit .1 .0, fit .1 .1 .0)
 
@@ -83,6 +91,7 @@ module _ {s : List ℕ} {at : ℕ} {claims t : List ℕ} {skip byte held i : ℕ
           putting-two pairWidth skip
           (putting-as (putting-both (putting-both apart)) (ap₂ (λ (w v : ℕ). slot w v ∷ rest) widths (sym is)))
 
+      -- what putting them asks for
       pub five-bytes : FiveBytes t (8 * byte) (word / 2 ^ skip)
       five-bytes = record {
         begins = omega arith;
@@ -91,8 +100,9 @@ module _ {s : List ℕ} {at : ℕ} {claims t : List ℕ} {skip byte held i : ℕ
         fits = grouped .space .fitting .0;
       }
 
+      -- they are put
       pub pairs-more : {u : List ℕ} {next : ℕ} → Put t (8 * byte) pairWidth (word / 2 ^ skip) u
-          → next ≡ word / 2 ^ 0 % 2 ^ skip → Pairs s at claims u skip (byte + 5) next (i + 2)
+          → next ≡ word / 2 ^ 0 % 2 ^ skip → Pairs s at claims u skip (byte + pairBytes) next (i + 2)
       pairs-more {u} {next} p e =
           let low : word % 2 ^ skip ≡ next = ap (λ (x : ℕ). x % 2 ^ skip) (sym (div-one word)) ∙ sym e in
           record {

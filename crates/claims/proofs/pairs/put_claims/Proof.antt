@@ -128,7 +128,7 @@ put-claim-requires c κs =
     let t = c .before .before in
     let put = t .before .before .before in
     let l = put .before .before in
-    space-first _ _ (last-left (l .before .loop .inv) (l .loop-test .left) (put .put .ensures) (t .if1 .taken) .space)
+    space-first _ _ (last-left (l .before .loop .inv) (l .loop-test .left) (put .put .ensures) (omega (arith, t .if1 .taken)) .space)
 
 -- what was put from the begun byte's bit on was put from the place on
 back : (e : tie.Start Inv-loop μ-loop) {u : List ℕ} {q : ℕ}
@@ -150,7 +150,7 @@ returns c =
     let l = put .before .before in
     back (entry (l .before))
     (putting-ends
-    (putting-run _ [] (last-left (l .before .loop .inv) (l .loop-test .left) (put .put .ensures) (t .if1 .taken))
+    (putting-run _ [] (last-left (l .before .loop .inv) (l .loop-test .left) (put .put .ensures) (omega (arith, t .if1 .taken)))
     (p .put-claim .ensures)))
 
 same-length-2 : tie.Need-same-length-2 Inv-loop μ-loop
