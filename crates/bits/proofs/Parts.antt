@@ -1,4 +1,4 @@
--- A field put part by part, a byte's bits at a time: two puts, one after the other, are one. Assumes nothing.
+-- A field put part by part, a byte's bits at a time or in two: two puts, one after the other, are one. Assumes nothing.
 use mathlib.Core.Path.{_≡_, refl, sym, ap, ap₂, _∙_, subst, subst₂}
 use mathlib.Core.List.{List}
 use Prim.Native.Nat.{ℕ, _+_, _-_, _*_, _/_, _%_, _^_, _≤_, _<_}

@@ -64,7 +64,8 @@ fn counts_add(counts: &[u8], claims: usize) -> bool
     total == claims
 }
 
-// Whether the claims fit their width: all are looked at, with no way out of the loop, so that several can be at once.
+// Whether the claims fit their width. All are looked at: a loop without another way out can compile to one over several at a
+// time.
 fn claims_fit(claims: &[u32]) -> bool
     ensures { λ r. ⌜ r ≡ claimsFit (now (claims .entry)) ⌝ }
 {
