@@ -40,7 +40,7 @@ pub struct Risk {
 // The running sums over the risks passed so far: how many they are, how many claims they have, SL and SA so far, and the place of
 // the next risk.
 pub struct SumsSoFar {
-    pub risks: usize,
+    pub risks: u32,
     pub claims: u32,
     pub total: u64,
     pub limited: u64,
@@ -146,8 +146,9 @@ pub fn pass_risk(file: &[u8], sums: SumsSoFar, limit: u32) -> PassedRisk
 {
     let place = sums.next;
     let risk = risk_at(file, place, limit);
+    let count = risk.count;
     let risks = sums.risks + 1;
-    let claims = sums.claims + risk.count;
+    let claims = sums.claims + count;
     let total = sums.total + risk.total as u64;
     let limited = sums.limited + risk.limited as u64;
     let next = risk.next;

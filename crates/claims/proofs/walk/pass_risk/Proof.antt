@@ -18,7 +18,7 @@ add-risks c = let e = entry (c .before) in omega (arith, e .pre .1)
 
 add-claims : tie.Need-add-claims
 add-claims c =
-    let r = c .before .before .before in
+    let r = c .before .before in
     let e = entry r in
     omega (arith, claims-most (e .pre .0), e .pre .1, risk-most (r .risk-at .ensures) .count)
 
@@ -27,7 +27,7 @@ cast-total c = search needs
 
 add-total : tie.Need-add-total
 add-total c =
-    let r = c .before .before .before .before .before in
+    let r = c .before .before .before .before in
     let e = entry r in
     omega (arith, total-most (e .pre .0), e .pre .1, risk-most (r .risk-at .ensures) .total)
 
@@ -36,14 +36,14 @@ cast-limited c = search needs
 
 add-limited : tie.Need-add-limited
 add-limited c =
-    let r = c .before .before .before .before .before .before .before in
+    let r = c .before .before .before .before .before .before in
     let e = entry r in
     let most = risk-most (r .risk-at .ensures) in
     omega (arith, total-most (e .pre .0), limited-most (e .pre .0), e .pre .1, most .total, most .limited)
 
 returns : tie.Need-returns
 returns c =
-    let r = c .before .before .before .before .before .before .before .before in
+    let r = c .before .before .before .before .before .before .before in
     risk-passed (entry r .pre .0) (r .risk-at .ensures) refl refl refl refl refl
 
 pub pass-risk-spec : {M : Type 1} → statement M
