@@ -13,7 +13,7 @@ use Rattle.claims.proofs.walk.walk.Tie as tie
 
 abbrev Inv-loop : tie.InvT-loop
 Inv-loop file risks limit n totals₀ limiteds₀ sums₀ i₀ totals limiteds sums i =
-    (i ≤ risks) × SumsAre file limit i sums × Stored file limit i totals limiteds
+    SumsAre file limit i sums × Stored file limit i totals limiteds × (i ≤ risks)
 
 abbrev μ-loop : tie.MeasureT-loop
 μ-loop file risks limit n totals₀ limiteds₀ sums₀ i₀ totals limiteds sums i = n - i
@@ -22,13 +22,13 @@ loop-holds : tie.Need-loop-holds Inv-loop μ-loop
 loop-holds c =
     let e = c .before in
     let a = e .args in
-    (omega arith, sums-start (a .file .now) (a .limit) refl refl refl refl (e .pre .1), stored-starts (a .file .now) (a .limit))
+    (sums-start (a .file .now) (a .limit) refl refl refl refl (e .pre .1), stored-starts (a .file .now) (a .limit), omega arith)
 
 pass-risk-requires : tie.Need-pass-risk-requires Inv-loop μ-loop
 pass-risk-requires c κs =
     let l = c .before .loop in
     let a = c .before .before .before .args in
-    let w = l .inv .1 in (
+    let w = l .inv .0 in (
       subst (λ (k : ℕ). SumsAre (a .file .now) (a .limit) k (l .sums)) (sym (w .risks)) w,
       omega (arith, w .risks, c .loop-test .taken, c .before .before .before .pre .0),
     )
@@ -58,10 +58,10 @@ loop-again c =
     let e = t .before .before .before in
     let a = e .args in
     let p = c .before .pass-risk in
-    let passed = subst (λ (k : ℕ). RiskPassed (a .file .now) (a .limit) k (p .result)) (l .inv .1 .risks) (p .ensures) in (
-      omega arith,
+    let passed = subst (λ (k : ℕ). RiskPassed (a .file .now) (a .limit) k (p .result)) (l .inv .0 .risks) (p .ensures) in (
       passed .sums,
-      stored-more (l .inv .2) passed (omega (arith, t .loop-test .taken, e .pre .0)),
+      stored-more (l .inv .1) passed (omega (arith, t .loop-test .taken, e .pre .0)),
+      omega arith,
     )
 
 returns : tie.Need-returns Inv-loop μ-loop
@@ -69,9 +69,9 @@ returns c =
     let l = c .before .before .loop in
     let a = c .before .before .before .before .args in
     let s = a .file .now in
-    let all : l .i ≡ a .risks = omega (arith, c .before .loop-test .left, l .inv .0) in
-    let w = subst (λ (k : ℕ). SumsAre s (a .limit) k (l .sums)) all (l .inv .1) in
-    let e = subst (λ (k : ℕ). Stored s (a .limit) k (l .totals) (l .limiteds)) all (l .inv .2) in
+    let all : l .i ≡ a .risks = omega (arith, c .before .loop-test .left, l .inv .2) in
+    let w = subst (λ (k : ℕ). SumsAre s (a .limit) k (l .sums)) all (l .inv .0) in
+    let e = subst (λ (k : ℕ). Stored s (a .limit) k (l .totals) (l .limiteds)) all (l .inv .1) in
     record {
       end = w .next;
       claims = w .claims;
