@@ -10,7 +10,7 @@ use Rattle.plan.specs.Header.{Header, headerOf}
 use Rattle.plan.specs.Claim.{claimAt, pastClaim, slotsOfClaim, claimFits}
 use Rattle.plan.specs.Risk.{countAt, firstClaim}
 use Rattle.plan.specs.File.{fileOf}
-use Rattle.plan.specs.Losses.{Losses, limitedOf, lossesIn}
+use Rattle.plan.specs.Losses.{Losses, limitedOf, SL, SA, lossesIn, lossesSoFar}
 use Rattle.plan.specs.Marks.{LG, LH}
 use Rattle.plan.specs.Ratable.{SX, SS, ratable}
 use Rattle.plan.specs.Basic.{basicPremium, excessCharge}
@@ -296,6 +296,24 @@ unfolding bytesOf number bit field claimAt pastClaim slotsOfClaim claimFits coun
 marksCase =
     (refl, refl, refl, refl, refl, refl, refl, refl, refl, refl, refl, refl, refl, refl, refl, refl, refl, refl, refl, refl, refl, refl, refl)
 
+-- ---- document 02, job 3
+
+-- the numbers of risks so far of the group of four
+abbrev soFar : List ℕ
+soFar = 0 ∷ 1 ∷ 2 ∷ 3 ∷ 4 ∷ []
+
+-- 'after each risk it is the sum of A so far', and the same of L: risk 1 has no claims, and after risk 4 they are SA and SL
+abbrev SumsCase : Type 0
+SumsCase =
+    (map (λ k. SA (lossesSoFar fourFile k)) soFar ≡ 0 ∷ 0 ∷ 4000 ∷ 9000 ∷ 21000 ∷ [])
+    × (map (λ k. SL (lossesSoFar fourFile k)) soFar ≡ 0 ∷ 0 ∷ 4000 ∷ 11000 ∷ 24000 ∷ [])
+    × (SA (lossesIn fourFile) ≡ 21000)
+    × (SL (lossesIn fourFile) ≡ 24000)
+
+sumsCase : SumsCase
+unfolding number bit field claimAt pastClaim countAt firstClaim limitedOf
+sumsCase = (refl, refl, refl, refl)
+
 -- all of them: 'gathered as one checked list'
-pub provedCases : FourCase × TableCase × OtherCases × GuaranteedCase × MarksCase
-provedCases = (fourCase, tableCase, otherCases, guaranteedCase, marksCase)
+pub provedCases : FourCase × TableCase × OtherCases × GuaranteedCase × MarksCase × SumsCase
+provedCases = (fourCase, tableCase, otherCases, guaranteedCase, marksCase, sumsCase)
