@@ -28,7 +28,14 @@ fn link_library(tests: &Path) {
     println!("cargo:rustc-link-lib=static=retro_c");
 }
 
-/// Compiles the sources in peers/ for this machine, and links them.
+/// The forms of the peers: the end of their objects' names, and what gcc is told. By itself `-O3`
+/// makes vectors of a loop where it can; `WITH_VECTORS` names that form in peers.h.
+const FORMS: [(&str, &str); 2] = [
+    ("", "-fno-tree-vectorize"),
+    ("_with_vectors", "-DWITH_VECTORS"),
+];
+
+/// Compiles the sources in peers/ for this machine in both forms, and links them.
 fn link_peers(tests: &Path) {
     let include = tests.join("../include");
     for header in [tests.join("peers/peers.h"), include.join("retro.h")] {
@@ -44,19 +51,21 @@ fn link_peers(tests: &Path) {
     ar.arg("crs").arg(&archive);
     for name in ["rater", "reader", "writer"] {
         let source = tests.join("peers").join(name).with_extension("c");
-        let object = out.join(name).with_extension("o");
         println!("cargo:rerun-if-changed={}", source.display());
-        let mut gcc = Command::new("gcc");
-        gcc.args(["-std=c11", "-O3", "-march=native"])
-            .args(["-Wall", "-Wextra", "-Werror"])
-            .arg("-I")
-            .arg(&include)
-            .arg("-c")
-            .arg(&source)
-            .arg("-o")
-            .arg(&object);
-        run(&mut gcc);
-        ar.arg(object);
+        for (end, form) in FORMS {
+            let object = out.join(format!("{name}{end}.o"));
+            let mut gcc = Command::new("gcc");
+            gcc.args(["-std=c11", "-O3", "-march=native", form])
+                .args(["-Wall", "-Wextra", "-Werror"])
+                .arg("-I")
+                .arg(&include)
+                .arg("-c")
+                .arg(&source)
+                .arg("-o")
+                .arg(&object);
+            run(&mut gcc);
+            ar.arg(object);
+        }
     }
     run(&mut ar);
     println!("cargo:rustc-link-search=native={}", out.display());

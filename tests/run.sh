@@ -12,7 +12,7 @@ cd "$(dirname "$0")/.."
 for name in "${!RETRO_@}" "${!CARGO_TARGET_@}"; do
     [ "$name" = CARGO_TARGET_DIR ] || unset "$name"
 done
-for compiler in cargo gcc g++; do
+for compiler in cargo gcc g++ ar; do
     command -v "$compiler" >/dev/null || { echo "$compiler is not installed" >&2; exit 1; }
 done
 

@@ -7,6 +7,10 @@
  * takes one 64-bit load or store, one byte swap and two shifts. They load up to PEERS_SPARE bytes
  * past a file's end, and the writer sets some of these to 0, so the memory of a file goes on for as
  * many.
+ *
+ * Each source is compiled for this machine in two forms (tests/build.rs): claim by claim, as the
+ * loops are written, and with vectors, where gcc may take several claims at a time. In the second
+ * form the functions have names of their own.
  */
 #ifndef PEERS_H
 #define PEERS_H
@@ -16,6 +20,12 @@
 #include <stddef.h>
 #include <stdint.h>
 #include <string.h>
+
+#ifdef WITH_VECTORS
+#define tuned_rate tuned_rate_with_vectors
+#define tuned_read tuned_read_with_vectors
+#define tuned_write tuned_write_with_vectors
+#endif
 
 /* The bytes after a file that may be loaded, and set to 0 by the writer. */
 enum { PEERS_SPARE = 8 };
@@ -57,11 +67,6 @@ enum {
 
 enum { WORD_WIDTH = 64, WORD_BYTES = 8, HEADER_BYTES = 16 };
 
-/* Two claims have whole bytes, so all pairs of a risk's claims begin at the same bit of a byte. The
-   second claim of a pair begins two bytes and four bits after the first. The loops over pairs are
-   unrolled four times, which is the fastest here. */
-enum { PAIR_BYTES = 5, SECOND_BYTES = 2, SECOND_BITS = 4 };
-
 /* The eight bytes from `bytes` on as a number, the first the most significant. */
 static inline uint64_t load_word(const uint8_t *bytes)
 {
@@ -77,17 +82,12 @@ static inline void store_word(uint8_t *bytes, uint64_t word)
     memcpy(bytes, &word, sizeof word);
 }
 
-/* The field of `width` bits that begins `bit` bits after the start of `bytes`. Both together are at
-   most 64. */
-static inline uint64_t field(const uint8_t *bytes, unsigned bit, unsigned width)
-{
-    return load_word(bytes) << bit >> (WORD_WIDTH - width);
-}
-
-/* The field of `width` bits at a bit place of the file. The place moves on to the next field. */
+/* The field of `width` bits, at most 57, at a bit place of the file. The place moves on to the next
+   field. */
 static inline uint64_t take(const uint8_t *file, size_t *place, unsigned width)
 {
-    uint64_t value = field(file + *place / 8, *place % 8, width);
+    uint64_t word = load_word(file + *place / 8);
+    uint64_t value = word << (*place % 8) >> (WORD_WIDTH - width);
     *place += width;
     return value;
 }

@@ -20,30 +20,19 @@ typedef struct sums {
 } sums;
 
 /* Step 1: sums the claims of all risks, of which the first count is at the place, and stores the
-   limited losses of each. As a function of its own it has all registers for its loop. */
-static __attribute__((noinline)) sums sum_losses(const uint8_t *file, size_t place, size_t risks,
-                                                 uint64_t limit, uint64_t *limited)
+   limited losses of each. */
+static inline sums sum_losses(const uint8_t *file, size_t place, size_t risks, uint64_t limit,
+                              uint64_t *limited)
 {
     sums group = {0, 0};
     for (size_t risk = 0; risk < risks; risk++) {
         size_t count = take(file, &place, COUNT_WIDTH);
-        const uint8_t *pair = file + place / 8;
-        unsigned bit = place % 8;
         uint64_t sum = 0;
-#pragma GCC unroll 4
-        for (size_t pairs = count / 2; pairs > 0; pairs--) {
-            uint64_t first = field(pair, bit, CLAIM_WIDTH);
-            uint64_t second = field(pair + SECOND_BYTES, bit + SECOND_BITS, CLAIM_WIDTH);
-            group.losses += first + second;
-            sum += lesser(first, limit) + lesser(second, limit);
-            pair += PAIR_BYTES;
+        for (size_t k = 0; k < count; k++) {
+            uint64_t claim = take(file, &place, CLAIM_WIDTH);
+            group.losses += claim;
+            sum += lesser(claim, limit);
         }
-        if (count % 2 == 1) {
-            uint64_t last = field(pair, bit, CLAIM_WIDTH);
-            group.losses += last;
-            sum += lesser(last, limit);
-        }
-        place += CLAIM_WIDTH * count;
         limited[risk] = sum;
         group.limited += sum;
     }

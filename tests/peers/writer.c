@@ -21,45 +21,38 @@ static inline void put_header(retro_header header, size_t risks, uint8_t *file)
     store_word(file + WORD_BYTES, word);
 }
 
+/* The word begun at `next`: its first `used` bits, which are fewer than 8, and zeros. */
+typedef struct begun {
+    uint8_t *next;
+    uint64_t word;
+    unsigned used;
+} begun;
+
+/* Puts a field behind the bits that are begun, and stores the word; what is begun then are the bits
+   of its last byte that is not full. */
+static inline begun put(begun at, unsigned width, uint64_t value)
+{
+    at.word |= value << (WORD_WIDTH - width - at.used);
+    store_word(at.next, at.word);
+    at.used += width;
+    at.next += at.used / 8;
+    at.word <<= at.used / 8 * 8;
+    at.used %= 8;
+    return at;
+}
+
 size_t tuned_write(retro_header header, const uint8_t *restrict counts, size_t risks,
                    const uint32_t *restrict claims, uint8_t *restrict file)
 {
     put_header(header, risks, file);
-    uint8_t *next = file + HEADER_BYTES;
-    /* The word begun at `next`: its first `used` bits, which are fewer than 8, and zeros. */
-    uint64_t begun = 0;
-    unsigned used = 0;
+    begun at = {file + HEADER_BYTES, 0, 0};
     for (size_t risk = 0; risk < risks; risk++) {
-        unsigned count = counts[risk];
-        begun |= (uint64_t)count << (WORD_WIDTH - COUNT_WIDTH - used);
-        store_word(next, begun);
-        used += COUNT_WIDTH;
-        begun <<= 8 * (used / 8);
-        next += used / 8;
-        used %= 8;
-        /* A claim has more bits than are begun, so what is begun after it are bits of its own. */
-        const unsigned first_shift = WORD_WIDTH - CLAIM_WIDTH - used;
-        const unsigned second_shift = first_shift - SECOND_BITS;
-#pragma GCC unroll 4
-        for (unsigned pairs = count / 2; pairs > 0; pairs--) {
-            uint64_t first = (uint64_t)claims[0] << first_shift;
-            store_word(next, begun | first);
-            begun = first << (8 * SECOND_BYTES);
-            uint64_t second = (uint64_t)claims[1] << second_shift;
-            store_word(next + SECOND_BYTES, begun | second);
-            begun = second << (8 * (PAIR_BYTES - SECOND_BYTES));
-            claims += 2;
-            next += PAIR_BYTES;
+        size_t count = counts[risk];
+        at = put(at, COUNT_WIDTH, count);
+        for (size_t k = 0; k < count; k++) {
+            at = put(at, CLAIM_WIDTH, claims[k]);
         }
-        if (count % 2 == 1) {
-            uint64_t last = (uint64_t)*claims << first_shift;
-            store_word(next, begun | last);
-            used += CLAIM_WIDTH;
-            begun = last << (8 * (used / 8));
-            next += used / 8;
-            used %= 8;
-            claims++;
-        }
+        claims += count;
     }
-    return (size_t)(next - file) + (used > 0);
+    return (size_t)(at.next - file) + (at.used > 0);
 }

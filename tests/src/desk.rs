@@ -3,7 +3,7 @@
 
 use crate::calls::{self, Numbers};
 use crate::generator::Random;
-use crate::peers::{self, AcceptedFile, AcceptedGroup, Claims, Counts, Premiums, Written};
+use crate::peers::{self, AcceptedFile, AcceptedGroup, Claims, Counts, Form, Premiums, Written};
 use crate::samples::{stock, Sample};
 use crate::second_rater::{self, Header, LARGEST_FILE, MOST_RISKS};
 use crate::straightforward;
@@ -14,14 +14,14 @@ use std::hint::black_box;
 #[derive(Clone, Copy, Debug, PartialEq, Eq)]
 pub enum Call {
     Rate,
-    TunedRater,
+    TunedRater(Form),
     StraightforwardRater,
     SecondRater,
     Table,
     Read,
-    TunedReader,
+    TunedReader(Form),
     Write,
-    TunedWriter,
+    TunedWriter(Form),
     Guaranteed,
     SecondRatersGuaranteed,
 }
@@ -30,14 +30,17 @@ impl Call {
     pub fn name(self) -> &'static str {
         match self {
             Call::Rate => "Rate",
-            Call::TunedRater => "tuned rater",
+            Call::TunedRater(Form::ClaimByClaim) => "tuned rater",
+            Call::TunedRater(Form::WithVectors) => "tuned rater with vectors",
             Call::StraightforwardRater => "straightforward rater",
             Call::SecondRater => "second rater",
             Call::Table => "Table",
             Call::Read => "Read",
-            Call::TunedReader => "tuned reader",
+            Call::TunedReader(Form::ClaimByClaim) => "tuned reader",
+            Call::TunedReader(Form::WithVectors) => "tuned reader with vectors",
             Call::Write => "Write",
-            Call::TunedWriter => "tuned writer",
+            Call::TunedWriter(Form::ClaimByClaim) => "tuned writer",
+            Call::TunedWriter(Form::WithVectors) => "tuned writer with vectors",
             Call::Guaranteed => "Guaranteed",
             Call::SecondRatersGuaranteed => "second rater's Guaranteed",
         }
@@ -117,9 +120,9 @@ impl Desk {
     pub fn call(&mut self, call: Call, case: &Case) {
         let accepted = match call {
             Call::Rate => self.rate(case),
-            Call::TunedRater => {
+            Call::TunedRater(form) => {
                 let premiums = black_box(&mut *self.premiums);
-                black_box(peers::rate(black_box(&case.file), premiums));
+                black_box(peers::rate(form, black_box(&case.file), premiums));
                 true
             }
             Call::StraightforwardRater => {
@@ -143,9 +146,9 @@ impl Desk {
                 let group = calls::read(black_box(case.file()), counts, claims);
                 black_box(group).refused == 0
             }
-            Call::TunedReader => {
+            Call::TunedReader(form) => {
                 let (counts, claims) = black_box((&mut *self.counts, &mut *self.claims));
-                black_box(peers::read(black_box(&case.file), counts, claims));
+                black_box(peers::read(form, black_box(&case.file), counts, claims));
                 true
             }
             Call::Write => {
@@ -157,9 +160,9 @@ impl Desk {
                 black_box(length);
                 answer == 0
             }
-            Call::TunedWriter => {
+            Call::TunedWriter(form) => {
                 let file = black_box(&mut *self.file);
-                black_box(peers::write(black_box(&case.values), file));
+                black_box(peers::write(form, black_box(&case.values), file));
                 true
             }
             Call::Guaranteed => self.guaranteed(case),

@@ -1,5 +1,5 @@
 //! The peers of the benchmark: a tuned rater, a tuned reader and a tuned writer in C (tests/peers).
-//! They are for comparing speed; nothing of them is shipped.
+//! They are for comparing speed; nothing of them is shipped. Each is there in two forms.
 //!
 //! A peer asks no question and tests no length. So what it is given is a type that is made only of
 //! what the second rater accepts, and what it stores to has room for the largest group: with that
@@ -21,21 +21,47 @@ pub type Claims = [u32; MOST_RISKS * MOST_CLAIMS_PER_RISK];
 /// Room for every file and the spare bytes after it.
 pub type Written = [u8; LARGEST_FILE + SPARE];
 
-/// The peers as C sees them (tests/peers/peers.h).
-pub mod raw {
-    use super::{Group, Header, Rated};
+/// A form of the peers, in which tests/build.rs has them compiled.
+#[derive(Clone, Copy, Debug, PartialEq, Eq)]
+pub enum Form {
+    /// As the loops are written.
+    ClaimByClaim,
+    /// With several claims at a time where gcc makes vectors of them.
+    WithVectors,
+}
 
-    extern "C" {
-        pub fn tuned_rate(file: *const u8, premiums: *mut u8) -> Rated;
-        pub fn tuned_read(file: *const u8, counts: *mut u8, claims: *mut u32) -> Group;
-        pub fn tuned_write(
-            header: Header,
-            counts: *const u8,
-            risks: usize,
-            claims: *const u32,
-            file: *mut u8,
-        ) -> usize;
+/// Both forms.
+pub const FORMS: [Form; 2] = [Form::ClaimByClaim, Form::WithVectors];
+
+/// The peers as C sees them (tests/peers/peers.h). Each function here gives the peer of a form.
+pub mod raw {
+    use super::{Form, Group, Header, Rated};
+
+    /// Declares a peer under its names in C, first claim by claim, then with vectors.
+    macro_rules! peer {
+        ($peer:ident: $claim_by_claim:ident, $with_vectors:ident,
+         fn($($name:ident: $type:ty),*) -> $given:ty) => {
+            extern "C" {
+                fn $claim_by_claim($($name: $type),*) -> $given;
+                fn $with_vectors($($name: $type),*) -> $given;
+            }
+
+            pub fn $peer(form: Form) -> unsafe extern "C" fn($($name: $type),*) -> $given {
+                match form {
+                    Form::ClaimByClaim => $claim_by_claim,
+                    Form::WithVectors => $with_vectors,
+                }
+            }
+        };
     }
+
+    peer!(rate: tuned_rate, tuned_rate_with_vectors,
+          fn(file: *const u8, premiums: *mut u8) -> Rated);
+    peer!(read: tuned_read, tuned_read_with_vectors,
+          fn(file: *const u8, counts: *mut u8, claims: *mut u32) -> Group);
+    peer!(write: tuned_write, tuned_write_with_vectors,
+          fn(header: Header, counts: *const u8, risks: usize, claims: *const u32,
+             file: *mut u8) -> usize);
 }
 
 /// A file that Rate accepts, and so does Read, with spare bytes after it.
@@ -94,18 +120,18 @@ impl AcceptedGroup {
 }
 
 /// The tuned rater: Rate's numbers, with the premiums at the start of the buffer.
-pub fn rate(file: &AcceptedFile, premiums: &mut Premiums) -> Rated {
+pub fn rate(form: Form, file: &AcceptedFile, premiums: &mut Premiums) -> Rated {
     // SAFETY: the file is accepted and has its spare bytes, and every group's premiums fit.
-    unsafe { raw::tuned_rate(file.bytes.as_ptr(), premiums.as_mut_ptr()) }
+    unsafe { raw::rate(form)(file.bytes.as_ptr(), premiums.as_mut_ptr()) }
 }
 
 /// The tuned reader: the number of risks and the header values, with the counts and the claims at
 /// the start of the buffers.
-pub fn read(file: &AcceptedFile, counts: &mut Counts, claims: &mut Claims) -> Group {
+pub fn read(form: Form, file: &AcceptedFile, counts: &mut Counts, claims: &mut Claims) -> Group {
     // SAFETY: the file is accepted and has its spare bytes, and every group's counts and claims
     // fit.
     unsafe {
-        raw::tuned_read(
+        raw::read(form)(
             file.bytes.as_ptr(),
             counts.as_mut_ptr(),
             claims.as_mut_ptr(),
@@ -115,7 +141,7 @@ pub fn read(file: &AcceptedFile, counts: &mut Counts, claims: &mut Claims) -> Gr
 
 /// The tuned writer: the file's length, with the file at the start of the buffer and up to `SPARE`
 /// zeros after it.
-pub fn write(group: &AcceptedGroup, file: &mut Written) -> usize {
+pub fn write(form: Form, group: &AcceptedGroup, file: &mut Written) -> usize {
     let AcceptedGroup {
         header,
         counts,
@@ -123,7 +149,7 @@ pub fn write(group: &AcceptedGroup, file: &mut Written) -> usize {
     } = group;
     // SAFETY: the values are accepted, and every group's file fits with its spare bytes.
     unsafe {
-        raw::tuned_write(
+        raw::write(form)(
             *header,
             counts.as_ptr(),
             counts.len(),

@@ -19,8 +19,11 @@ fn each_call() {
         "write",
         "guaranteed",
         "tuned-rater",
+        "tuned-rater-with-vectors",
         "tuned-reader",
+        "tuned-reader-with-vectors",
         "tuned-writer",
+        "tuned-writer-with-vectors",
     ] {
         for sizes in [&[][..], &["16"], &["1", "1"], &["255", "63"]] {
             let output = once(&[&[call], sizes].concat());

@@ -1,10 +1,10 @@
 //! The benchmark's peers give what the second rater gives, so that the times are of the same work,
-//! and touch no byte that they may not.
+//! and touch no byte that they may not. All of it holds in both forms.
 
 use retro_tests::calls::Group;
 use retro_tests::generator::{bits, Random};
-use retro_tests::guard::{Guarded, PLACES};
-use retro_tests::peers::{self, raw, AcceptedFile, AcceptedGroup, SPARE};
+use retro_tests::guard::{Guarded, Place, PLACES};
+use retro_tests::peers::{self, raw, AcceptedFile, AcceptedGroup, Form, FORMS, SPARE};
 use retro_tests::samples::{
     crossed_marks, four_risks, largest, one_claim_of_one, rated_groups, Sample, AMPLE,
 };
@@ -44,12 +44,22 @@ fn answer(group: &second_rater::Group) -> Group {
     Group::given(group.counts.len() as u32, group.header.into())
 }
 
+/// A peer's form and the file that it is called for.
+type Called<'a> = (Form, &'a [u8]);
+
 /// Ends the test where a part differs between a peer and the second rater.
-fn same<T: PartialEq + fmt::Debug>(given: T, expected: T, part: &str, file: &[u8]) {
+fn same<T: PartialEq + fmt::Debug>(given: T, expected: T, part: &str, (form, file): Called) {
     assert!(
         given == expected,
-        "{part}: the peer gives {given:?}, the second rater {expected:?}; file {file:02x?}"
+        "{part}: the peer {form:?} gives {given:?}, the second rater {expected:?}; \
+         file {file:02x?}"
     );
+}
+
+/// Each form, with its memory at each place.
+fn forms_at_places() -> impl Iterator<Item = (Form, Place)> {
+    let at_places = |form| PLACES.map(|place| (form, place));
+    FORMS.into_iter().flat_map(at_places)
 }
 
 /// Memory for the peers between unreadable pages, of which each call is lent exactly what it may
@@ -73,7 +83,8 @@ impl Held {
 
     /// The rater on a file that Rate accepts.
     fn rate(&mut self, file: &[u8], rated: &second_rater::Rated) {
-        for place in PLACES {
+        for (form, place) in forms_at_places() {
+            let called = (form, file);
             for spare in SPARE_BYTES {
                 let bytes = [file, &[spare; SPARE]].concat();
                 let lent = self.file.copy(&bytes, place);
@@ -81,17 +92,18 @@ impl Held {
                 premiums.fill(PRESET);
                 // SAFETY: the second rater accepts the file, which has its spare bytes, and the
                 // premiums have four bytes for each risk.
-                let given = unsafe { raw::tuned_rate(lent.as_ptr(), premiums.as_mut_ptr()) };
-                same(given, numbers(rated), "n, M, Q and sum billed", file);
-                same(&*premiums, &premium_bytes(rated)[..], "premiums", file);
-                assert!(*lent == bytes, "the rater has changed the file");
+                let given = unsafe { raw::rate(form)(lent.as_ptr(), premiums.as_mut_ptr()) };
+                same(given, numbers(rated), "n, M, Q and sum billed", called);
+                same(&*premiums, &premium_bytes(rated)[..], "premiums", called);
+                same(&*lent, &bytes[..], "file after the call", called);
             }
         }
     }
 
     /// The reader on a file that Read accepts.
     fn read(&mut self, file: &[u8], group: &second_rater::Group) {
-        for place in PLACES {
+        for (form, place) in forms_at_places() {
+            let called = (form, file);
             for spare in SPARE_BYTES {
                 let bytes = [file, &[spare; SPARE]].concat();
                 let lent = self.file.copy(&bytes, place);
@@ -102,18 +114,19 @@ impl Held {
                 let (to_counts, to_claims) = (counts.as_mut_ptr(), claims.as_mut_ptr());
                 // SAFETY: the second rater reads the file, which has its spare bytes, into as many
                 // counts and claims.
-                let given = unsafe { raw::tuned_read(lent.as_ptr(), to_counts, to_claims) };
-                same(given, answer(group), "header", file);
-                same(&*counts, &group.counts[..], "counts", file);
-                same(&*claims, &group.claims[..], "claims", file);
-                assert!(*lent == bytes, "the reader has changed the file");
+                let given = unsafe { raw::read(form)(lent.as_ptr(), to_counts, to_claims) };
+                same(given, answer(group), "header", called);
+                same(&*counts, &group.counts[..], "counts", called);
+                same(&*claims, &group.claims[..], "claims", called);
+                same(&*lent, &bytes[..], "file after the call", called);
             }
         }
     }
 
     /// The writer on values that Write accepts, with the file that it must make of them.
     fn write(&mut self, header: &Header, counts: &[u8], claims: &[u32], file: &[u8]) {
-        for place in PLACES {
+        for (form, place) in forms_at_places() {
+            let called = (form, file);
             let lent_counts = self.counts.copy(counts, place);
             let lent_claims = self.claims.copy(claims, place);
             let written = self.file.slice(file.len() + SPARE, place);
@@ -121,7 +134,7 @@ impl Held {
             // SAFETY: the second rater writes these values, and the buffer has room for their file
             // and the spare bytes.
             let length = unsafe {
-                raw::tuned_write(
+                raw::write(form)(
                     (*header).into(),
                     lent_counts.as_ptr(),
                     counts.len(),
@@ -130,12 +143,12 @@ impl Held {
                 )
             };
             let (made, spare) = written.split_at(file.len());
-            same(length, file.len(), "length", file);
-            same(made, file, "bytes", file);
+            same(length, file.len(), "length", called);
+            same(made, file, "bytes", called);
             let zero_or_kept = |&byte: &u8| byte == 0 || byte == PRESET;
-            assert!(spare.iter().all(zero_or_kept), "spare bytes: {spare:?}");
-            assert!(*lent_counts == *counts, "the writer has changed the counts");
-            assert!(*lent_claims == *claims, "the writer has changed the claims");
+            assert!(spare.iter().all(zero_or_kept), "{form:?}, spare {spare:?}");
+            same(&*lent_counts, counts, "counts after the call", called);
+            same(&*lent_claims, claims, "claims after the call", called);
         }
     }
 
@@ -158,33 +171,35 @@ fn then_preset<T: Copy>(entries: &[T], preset: T, len: usize) -> Vec<T> {
 }
 
 /// All three as the benchmark calls them, with buffers for the largest group.
-fn as_in_the_benchmark(sample: &Sample) {
+fn as_in_the_benchmark(form: Form, sample: &Sample) {
     let file = sample.file();
+    let called = (form, &file[..]);
     let (mut counts, mut claims) = ([PRESET; MOST_RISKS], [PRESET_CLAIM; 16_065]);
     let (mut premiums, mut written) = ([PRESET; 1_020], [PRESET; LARGEST_FILE + SPARE]);
 
     let accepted = AcceptedFile::new(&file);
     assert!(accepted.file() == file);
     let rated = second_rater::rate(&file, AMPLE).unwrap();
-    let given = peers::rate(&accepted, &mut premiums);
-    same(given, numbers(&rated), "n, M, Q and sum billed", &file);
+    let given = peers::rate(form, &accepted, &mut premiums);
+    same(given, numbers(&rated), "n, M, Q and sum billed", called);
     let expected = then_preset(&premium_bytes(&rated), PRESET, premiums.len());
-    same(&premiums[..], &expected[..], "premiums", &file);
+    same(&premiums[..], &expected[..], "premiums", called);
 
     let group = second_rater::read(&file, AMPLE, AMPLE).unwrap();
-    let given = peers::read(&accepted, &mut counts, &mut claims);
-    same(given, answer(&group), "header", &file);
+    let given = peers::read(form, &accepted, &mut counts, &mut claims);
+    same(given, answer(&group), "header", called);
     let expected = then_preset(&group.counts, PRESET, counts.len());
-    same(&counts[..], &expected[..], "counts", &file);
+    same(&counts[..], &expected[..], "counts", called);
     let expected = then_preset(&group.claims, PRESET_CLAIM, claims.len());
-    same(&claims[..], &expected[..], "claims", &file);
+    same(&claims[..], &expected[..], "claims", called);
 
     let values = AcceptedGroup::new(sample.header, &sample.counts(), &sample.claims());
-    let length = peers::write(&values, &mut written);
-    same(length, file.len(), "length", &file);
-    same(&written[..length], &file[..], "bytes", &file);
+    let length = peers::write(form, &values, &mut written);
+    same(length, file.len(), "length", called);
+    same(&written[..length], &file[..], "bytes", called);
     let after = &written[length + SPARE..];
-    assert!(after.iter().all(|&byte| byte == PRESET), "{after:?}");
+    let kept = |&byte: &u8| byte == PRESET;
+    assert!(after.iter().all(kept), "{form:?}: {after:?}");
 }
 
 /// A kind of file that must occur among the generated ones.
@@ -331,7 +346,9 @@ fn known_groups() {
     for sample in rated_groups().iter().chain(&of_the_benchmark) {
         let file = sample.file();
         held.all(&file);
-        as_in_the_benchmark(sample);
+        for form in FORMS {
+            as_in_the_benchmark(form, sample);
+        }
         lengths.push(file.len());
     }
     assert_eq!(

@@ -7,6 +7,7 @@
 //! many calls as take about a millisecond, and its time is divided by their number.
 
 use retro_tests::desk::{Call, Case, Desk};
+use retro_tests::peers::Form::{ClaimByClaim, WithVectors};
 use retro_tests::second_rater::{MOST_CLAIMS_PER_RISK, MOST_RISKS};
 use std::time::Instant;
 
@@ -21,17 +22,20 @@ const MOST: usize = MOST_RISKS;
 #[derive(Clone, Copy, PartialEq)]
 struct Measured(Call, usize);
 
-const ALL: [Measured; 13] = [
+const ALL: [Measured; 16] = [
     Measured(Call::Rate, FEW),
     Measured(Call::Rate, MOST),
-    Measured(Call::TunedRater, MOST),
+    Measured(Call::TunedRater(ClaimByClaim), MOST),
+    Measured(Call::TunedRater(WithVectors), MOST),
     Measured(Call::StraightforwardRater, MOST),
     Measured(Call::SecondRater, MOST),
     Measured(Call::Table, MOST),
     Measured(Call::Read, MOST),
-    Measured(Call::TunedReader, MOST),
+    Measured(Call::TunedReader(ClaimByClaim), MOST),
+    Measured(Call::TunedReader(WithVectors), MOST),
     Measured(Call::Write, MOST),
-    Measured(Call::TunedWriter, MOST),
+    Measured(Call::TunedWriter(ClaimByClaim), MOST),
+    Measured(Call::TunedWriter(WithVectors), MOST),
     Measured(Call::Guaranteed, FEW),
     Measured(Call::Guaranteed, MOST),
     Measured(Call::SecondRatersGuaranteed, MOST),
@@ -70,11 +74,17 @@ impl Ratio {
 /// The goal of Rate's growth from few risks to most.
 const GROWTH_GOAL: &str = "below 17";
 
-const RATIOS: [Ratio; 9] = [
+const RATIOS: [Ratio; 12] = [
     ratio(
         "Rate to the tuned rater, 255 risks",
         Measured(Call::Rate, MOST),
-        Measured(Call::TunedRater, MOST),
+        Measured(Call::TunedRater(ClaimByClaim), MOST),
+    )
+    .goal("at most 1.0"),
+    ratio(
+        "Rate to the tuned rater with vectors, 255 risks",
+        Measured(Call::Rate, MOST),
+        Measured(Call::TunedRater(WithVectors), MOST),
     )
     .goal("at most 1.0"),
     ratio(
@@ -98,13 +108,25 @@ const RATIOS: [Ratio; 9] = [
     ratio(
         "Read to the tuned reader, 255 risks",
         Measured(Call::Read, MOST),
-        Measured(Call::TunedReader, MOST),
+        Measured(Call::TunedReader(ClaimByClaim), MOST),
+    )
+    .goal("at most 1.5"),
+    ratio(
+        "Read to the tuned reader with vectors, 255 risks",
+        Measured(Call::Read, MOST),
+        Measured(Call::TunedReader(WithVectors), MOST),
     )
     .goal("at most 1.5"),
     ratio(
         "Write to the tuned writer, 255 risks",
         Measured(Call::Write, MOST),
-        Measured(Call::TunedWriter, MOST),
+        Measured(Call::TunedWriter(ClaimByClaim), MOST),
+    )
+    .goal("at most 1.5"),
+    ratio(
+        "Write to the tuned writer with vectors, 255 risks",
+        Measured(Call::Write, MOST),
+        Measured(Call::TunedWriter(WithVectors), MOST),
     )
     .goal("at most 1.5"),
     ratio(

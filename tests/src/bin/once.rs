@@ -5,24 +5,28 @@
 //! `once CALL [RISKS [CLAIMS]]`: RISKS risks of CLAIMS claims each, without these 255 of 63, which
 //! is the largest file of `bench`. Exit status: 0; 2 for wrong usage.
 //!
-//! The tuned peers are compiled for this machine. Where gcc takes instructions for them that
-//! valgrind does not know, such as those of AVX-512, `objdump -d` shows their loops.
+//! The tuned peers are compiled for this machine. Those with vectors may have instructions that
+//! valgrind does not know, such as those of AVX-512; `objdump -d` shows their loops.
 
 use retro_tests::desk::{Call, Case, Desk};
+use retro_tests::peers::Form::{ClaimByClaim, WithVectors};
 use retro_tests::second_rater::{MOST_CLAIMS_PER_RISK, MOST_RISKS};
 use std::env;
 use std::process::ExitCode;
 
 /// The calls by the names that the arguments have for them.
-const CALLS: [(&str, Call); 8] = [
+const CALLS: [(&str, Call); 11] = [
     ("rate", Call::Rate),
     ("table", Call::Table),
     ("read", Call::Read),
     ("write", Call::Write),
     ("guaranteed", Call::Guaranteed),
-    ("tuned-rater", Call::TunedRater),
-    ("tuned-reader", Call::TunedReader),
-    ("tuned-writer", Call::TunedWriter),
+    ("tuned-rater", Call::TunedRater(ClaimByClaim)),
+    ("tuned-rater-with-vectors", Call::TunedRater(WithVectors)),
+    ("tuned-reader", Call::TunedReader(ClaimByClaim)),
+    ("tuned-reader-with-vectors", Call::TunedReader(WithVectors)),
+    ("tuned-writer", Call::TunedWriter(ClaimByClaim)),
+    ("tuned-writer-with-vectors", Call::TunedWriter(WithVectors)),
 ];
 
 fn main() -> ExitCode {
