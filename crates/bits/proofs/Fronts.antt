@@ -1,5 +1,5 @@
--- Fields cut from a word's front. Where the n highest bits of a word are those of the bytes from a place on, its m highest are the
--- field of m bits there; shifted to the left by m, it has the bits after that field. Assumes nothing.
+-- Fields cut from a word's front. Where the n highest bits of a word are those of the bytes from a place on, its m highest are
+-- the field of m bits there; shifted to the left by m, it has the bits after that field. Assumes nothing.
 use mathlib.Core.Path.{_≡_, sym, ap, _∙_}
 use mathlib.Core.List.{List}
 use Prim.Native.Nat.{ℕ, _+_, _-_, _*_, _/_, _%_, _^_, _≤_}
@@ -7,7 +7,7 @@ use native.Mathlib.Nat.{div-one}
 use native.Mathlib.Omega.{arith}
 use lib.Pow.{shr-shr, high, low}
 use Rattle.plan.specs.Field.{field}
-use Rattle.plan.proofs.Fields.{field-lt, field-split, field-at}
+use Rattle.plan.proofs.Fields.{field-lt, field-split}
 use Rattle.words.proofs.Words.{front-after}
 use Rattle.bits.specs.Take.{Ahead}
 

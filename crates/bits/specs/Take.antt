@@ -20,8 +20,8 @@ pub record Ahead (s : List ℕ) (at n w : ℕ) : Type 0 where
   pub few : n ≤ 64
   pub are : w / 2 ^ (64 - n) ≡ field s at n
 
--- a run of w bits at the place `at` is at most 57 bits wide, its word ends at byte `reach` or before, and the next place is a number
--- of 64 bits
+-- a run of w bits at the place `at` is at most 57 bits wide, its word ends at byte `reach` or before, and the next place is a
+-- number of 64 bits
 pub record FrontReach (at w reach : ℕ) : Type 0 where
   pub narrow : w ≤ 57
   pub ends : at / 8 + 8 ≤ reach

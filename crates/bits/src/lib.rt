@@ -63,10 +63,10 @@ impl BitPlace {
     {
         let at = self.at;
         let bits = word_within(file, at / 8, reach) << (at % 8) as u32;
-        let next = at + width as usize;
+        let past = at + width as usize;
         Front {
             bits,
-            next: BitPlace { at: next },
+            next: BitPlace { at: past },
         }
     }
 

@@ -1,16 +1,17 @@
--- The two loops of the walk. After i claims of a risk the sums are those of its first i claims; after k risks the running sums are
--- those over the first k, and the stored losses theirs. Each law takes one claim, or one risk, more. Assumes nothing.
-use mathlib.Core.Path.{_≡_, refl, sym, ap, ap₂, _∙_}
+-- The two loops of the walk, and the loop over the counts alone. After i claims of a risk the sums are those of its first i
+-- claims; after k risks the running sums are those over the first k, and the stored losses theirs. Each law takes one claim, or
+-- one risk, more. Assumes nothing.
+use mathlib.Core.Path.{_≡_, sym, ap, ap₂, _∙_, subst}
 use mathlib.Core.List.{List, [], _∷_, map}
-use Prim.Native.Nat.{ℕ, _+_, _*_, _/_, _%_, _^_, _≤_, _<_, min}
+use Prim.Native.Nat.{ℕ, _+_, _*_, _%_, _^_, _≤_, _<_, min}
 use native.Mathlib.Omega.{arith}
-use lib.ListN.{length, set, replicate}
+use lib.ListN.{set, replicate}
 use Rattle.plan.specs.Arithmetic.{sum}
-use Rattle.plan.specs.Sizes.{largestClaim, mostClaims, mostRisks, mostRiskLosses, mostRiskBits, mostFileBits}
+use Rattle.plan.specs.Sizes.{largestClaim, mostClaims, mostRisks, mostRiskLosses, mostRiskBits}
 use Rattle.plan.specs.Header.{headerBits}
 use Rattle.plan.specs.Claim.{claimWidth, claimAt, pastClaim, claimsFrom, pastClaims}
 use Rattle.plan.specs.Risk.{countAt, firstClaim, claimsAt, pastRisk, countsFrom, risksFrom, pastRisks}
-use Rattle.plan.specs.Losses.{Losses, limitedTo, totalOf, limitedOf, lossesOf, SL, SA, lossesFrom}
+use Rattle.plan.specs.Losses.{Losses, limitedTo, totalOf, limitedOf, lossesOf, lossesFrom}
 use Rattle.plan.proofs.Sums.{sum-append}
 use Rattle.plan.proofs.Claims.{claim-le, past-claim, past-claims, past-more}
 use Rattle.plan.proofs.Risks.{count-le, counts-le, counts-more, past-risks-le, past-risks-more}
@@ -103,6 +104,40 @@ module _ {s : List ℕ} {at limit i : ℕ} {r : ClaimSums} (w : Summing s at lim
     pub front-behind : 2 * claimWidth ≤ n → frontClaim ((word * 2 ^ claimWidth) % 2 ^ 64) ≡ claimAt s (pastClaims s at (i + 1))
     front-behind h = front-next a h ∙ ap (claimAt s) (ap (pastClaim s) here ∙ sym (past-more s at i))
 
+-- ---- the counts alone
+
+-- the first k + 1 counts add to what the first k add to, and the next
+counts-sum : (s : List ℕ) (k : ℕ)
+    → sum (countsFrom s headerBits (k + 1)) ≡ sum (countsFrom s headerBits k) + countAt s (pastRisks s headerBits k)
+counts-sum s k =
+    ap sum (counts-more s headerBits k)
+    ∙ sum-append (λ x. x) (countsFrom s headerBits k) (countAt s (pastRisks s headerBits k) ∷ [])
+    ∙ omega arith
+
+-- after k risks: the claims counted, and the place of the next risk
+pub record Counting (s : List ℕ) (k p claims : ℕ) : Type 0 where
+  pub place : p ≡ pastRisks s headerBits k
+  pub claims-are : claims ≡ sum (countsFrom s headerBits k)
+
+module _ {s : List ℕ} {k p claims : ℕ} (w : Counting s k p claims) where
+  pub counting-place : p ≤ headerBits + mostRiskBits * k
+  counting-place = omega (arith, w .place, past-risks-le s headerBits k)
+
+  pub counting-most : claims ≤ mostClaims * k
+  counting-most = omega (arith, w .claims-are, counts-le s headerBits k)
+
+  -- one count more, as the code has it: taken at p, and the place after as many claims
+  pub counting-more : {t : Taken} {q : ℕ} → CountIs s p t → q ≡ t .next .at + claimWidth * t .value
+      → Counting s (k + 1) q (claims + t .value)
+  counting-more {t} {q} x e =
+      let count : t .value ≡ countAt s p = x .is in
+      let end : q ≡ pastRisk s p =
+      e ∙ ap₂ (λ (a n : ℕ). a + claimWidth * n) (x .next) count ∙ sym (past-claims s (firstClaim p) (countAt s p)) in
+      record {
+        place = end ∙ ap (pastRisk s) (w .place) ∙ sym (past-risks-more s headerBits k);
+        claims-are = ap₂ _+_ (w .claims-are) (count ∙ ap (countAt s) (w .place)) ∙ sym (counts-sum s k);
+      }
+
 -- ---- the risks of a file
 
 -- the sums over no risks
@@ -123,19 +158,16 @@ risk-most {s} {p} {limit} {r} x = record {
   limited = omega (arith, x .total, x .limited, limited-total limit (claimsAt s p));
 }
 
--- the first k + 1 counts add to what the first k add to, and the next
-counts-sum : (s : List ℕ) (k : ℕ) → sum (countsFrom s headerBits (k + 1)) ≡ sum (countsFrom s headerBits k) + countAt s (pastRisks s headerBits k)
-counts-sum s k =
-    ap sum (counts-more s headerBits k)
-    ∙ sum-append (λ x. x) (countsFrom s headerBits k) (countAt s (pastRisks s headerBits k) ∷ [])
-    ∙ omega arith
-
 module _ {s : List ℕ} {limit k : ℕ} {r : SumsSoFar} (w : SumsAre s limit k r) where
+  -- their place and number of claims are those that the counts tell
+  counted : Counting s k (r .next .at) (r .claims)
+  counted = record { place = w .next; claims-are = w .claims }
+
   pub place-most : r .next .at ≤ headerBits + mostRiskBits * k
-  place-most = omega (arith, w .next, past-risks-le s headerBits k)
+  place-most = counting-place counted
 
   pub claims-most : r .claims ≤ mostClaims * k
-  claims-most = omega (arith, w .claims, counts-le s headerBits k)
+  claims-most = counting-most counted
 
   pub total-most : r .total ≤ mostRiskLosses * k
   total-most = omega (arith, w .total, SL-le s limit headerBits k)
@@ -144,8 +176,9 @@ module _ {s : List ℕ} {limit k : ℕ} {r : SumsSoFar} (w : SumsAre s limit k r
   limited-most = omega (arith, w .total, w .limited, SA≤SL limit (risksFrom s headerBits k))
 
   -- one risk more, as the code has it: taken where the first k end, and added to the sums
-  pub risk-passed : {x : Risk} {q : SumsSoFar} → RiskIs s (r .next .at) limit x → q .risks ≡ k + 1 → q .claims ≡ r .claims + x .count
-      → q .total ≡ r .total + x .total → q .limited ≡ r .limited + x .limited → q .next ≡ x .next
+  pub risk-passed : {x : Risk} {q : SumsSoFar} → RiskIs s (r .next .at) limit x → q .risks ≡ k + 1
+      → q .claims ≡ r .claims + x .count → q .total ≡ r .total + x .total → q .limited ≡ r .limited + x .limited
+      → q .next ≡ x .next
       → RiskPassed s limit k (record { total = x .total; limited = x .limited; sums = q })
   risk-passed {x} {q} i n c l a p =
       let own-total : x .total ≡ totalOf (claimsAt s (pastRisks s headerBits k)) =
@@ -162,31 +195,6 @@ module _ {s : List ℕ} {limit k : ℕ} {r : SumsSoFar} (w : SumsAre s limit k r
           limited = a ∙ ap₂ _+_ (w .limited) own-limited ∙ sym (SA-so-far s limit headerBits k);
           next = ap (λ (b : BitPlace). b .at) p ∙ i .next ∙ ap (pastRisk s) (w .next) ∙ sym (past-risks-more s headerBits k);
         };
-      }
-
--- ---- the counts alone
-
--- after k risks: the claims counted, and the place of the next risk
-pub record Counting (s : List ℕ) (k p claims : ℕ) : Type 0 where
-  pub place : p ≡ pastRisks s headerBits k
-  pub claims-are : claims ≡ sum (countsFrom s headerBits k)
-
-module _ {s : List ℕ} {k p claims : ℕ} (w : Counting s k p claims) where
-  pub counting-place : p ≤ headerBits + mostRiskBits * k
-  counting-place = omega (arith, w .place, past-risks-le s headerBits k)
-
-  pub counting-most : claims ≤ mostClaims * k
-  counting-most = omega (arith, w .claims-are, counts-le s headerBits k)
-
-  -- one count more, as the code has it: taken at p, and the place after as many claims
-  pub counting-more : {t : Taken} {q : ℕ} → CountIs s p t → q ≡ t .next .at + claimWidth * t .value → Counting s (k + 1) q (claims + t .value)
-  counting-more {t} {q} x e =
-      let count : t .value ≡ countAt s p = x .is in
-      let end : q ≡ pastRisk s p =
-      e ∙ ap₂ (λ (a n : ℕ). a + claimWidth * n) (x .next) count ∙ sym (past-claims s (firstClaim p) (countAt s p)) in
-      record {
-        place = end ∙ ap (pastRisk s) (w .place) ∙ sym (past-risks-more s headerBits k);
-        claims-are = ap₂ _+_ (w .claims-are) (count ∙ ap (countAt s) (w .place)) ∙ sym (counts-sum s k);
       }
 
 -- ---- the arrays of the walk
@@ -209,9 +217,13 @@ entry-more s limit k f xs v h e is =
     ∙ first-more f (lossesFrom s limit headerBits k) _ (length-losses-from s limit headerBits k) h
     ∙ ap (λ (l : List Losses). firstOf (map f l)) (sym (losses-so-far s limit headerBits k))
 
+-- with a risk passed the arrays have its entries too
 pub stored-more : {s : List ℕ} {limit k : ℕ} {totals limiteds : List ℕ} {r : PassedRisk} → Stored s limit k totals limiteds
-    → RiskPassed s limit k r → k < mostRisks → Stored s limit (k + 1) (set totals k (r .total)) (set limiteds k (r .limited))
-stored-more {s} {limit} {k} {totals} {limiteds} {r} e x h = record {
-  totals-are = entry-more s limit k (λ r. r .total) totals (r .total) h (e .totals-are) (x .total);
-  limiteds-are = entry-more s limit k (λ r. r .limited) limiteds (r .limited) h (e .limiteds-are) (x .limited);
-}
+    → RiskPassed s limit k r → k < mostRisks
+    → Stored s limit (r .sums .risks) (set totals k (r .total)) (set limiteds k (r .limited))
+stored-more {s} {limit} {k} {totals} {limiteds} {r} e x h =
+    subst (λ (j : ℕ). Stored s limit j (set totals k (r .total)) (set limiteds k (r .limited))) (sym (x .sums .risks))
+    (record {
+      totals-are = entry-more s limit k (λ r. r .total) totals (r .total) h (e .totals-are) (x .total);
+      limiteds-are = entry-more s limit k (λ r. r .limited) limiteds (r .limited) h (e .limiteds-are) (x .limited);
+    })

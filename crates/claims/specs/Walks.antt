@@ -3,7 +3,7 @@ use mathlib.Core.Path.{_≡_}
 use mathlib.Core.List.{List}
 use Prim.Native.Nat.{ℕ, _+_, _^_, _≤_, _<_, min}
 use Rattle.plan.specs.Arithmetic.{sum}
-use Rattle.plan.specs.Sizes.{largestClaim}
+use Rattle.plan.specs.Sizes.{largestClaim, mostRisks}
 use Rattle.plan.specs.Header.{headerBits}
 use Rattle.plan.specs.Claim.{claimsFrom, pastClaims}
 use Rattle.plan.specs.Risk.{countAt, firstClaim, claimsAt, pastRisk, countsFrom, pastRisks}
@@ -51,13 +51,19 @@ pub record RiskIs (s : List ℕ) (at limit : ℕ) (r : Risk) : Type 0 where
 
 -- ---- the running sums: 'after each risk it is the sum of A so far'
 
--- over the first k risks of the file s: the number of claims, the sum of L, the sum of A, and the place of risk k + 1
+-- over the first k risks of the file s, by a loss limit: how many they are, the number of their claims, the sum of L, the sum
+-- of A; and the place of risk k + 1
 pub record SumsAre (s : List ℕ) (limit k : ℕ) (r : SumsSoFar) : Type 0 where
   pub risks : r .risks ≡ k
   pub claims : r .claims ≡ sum (countsFrom s headerBits k)
   pub total : r .total ≡ SL (lossesFrom s limit headerBits k)
   pub limited : r .limited ≡ SA (lossesFrom s limit headerBits k)
   pub next : r .next .at ≡ pastRisks s headerBits k
+
+-- what passing a risk asks for: the sums over the risks so far, which are fewer than 255
+pub record NextRisk (s : List ℕ) (limit : ℕ) (r : SumsSoFar) : Type 0 where
+  pub sums : SumsAre s limit (r .risks) r
+  pub few : r .risks < mostRisks
 
 -- risk k + 1 passed: its own L and A, and the sums over the first k + 1
 pub record RiskPassed (s : List ℕ) (limit k : ℕ) (r : PassedRisk) : Type 0 where

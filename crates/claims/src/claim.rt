@@ -1,4 +1,5 @@
-// One claim as it lies in the file: taken, put, and whether it fits.
+// One claim as it lies in the file: taken at a place or from a word's front, put, and whether it fits; and where a run of claims
+// ends.
 ghost use mathlib.Core.Path.{_≡_};
 ghost use Prim.Native.Nat.{_+_, _*_, _/_, _≤_, min};
 ghost use Rattle.plan.specs.Sizes.{largestClaim};

@@ -1,4 +1,4 @@
-// The walk over a file's claims: step 1's losses of a risk and of the group, and where the last field ends; and the same end by the
+// The walk over a file's claims: step 1's losses of a risk and of the group, and where the last field ends; and that end by the
 // counts alone. Either is taken whatever the file's length, since bits past the end are 0, so it is a matter of the bytes alone.
 ghost use mathlib.Core.Path.{_≡_};
 ghost use Prim.Native.Nat.{_+_, _≤_, _<_};
@@ -7,7 +7,8 @@ ghost use Rattle.plan.specs.Losses.{limitedTo};
 ghost use Rattle.plan.specs.Risk.{countWidth};
 ghost use Rattle.plan.specs.Sizes.{mostRisks, mostFileBits};
 ghost use Rattle.claims.specs.Claim.{RunReach, frontClaim};
-ghost use Rattle.claims.specs.Walks.{ClaimRoom, ClaimAdded, CountIs, ClaimsAre, RiskIs, SumsAre, RiskPassed, WalkIs, CountedIs};
+ghost use Rattle.claims.specs.Walks.{ClaimRoom, ClaimAdded, CountIs, ClaimsAre, RiskIs, NextRisk, RiskPassed};
+ghost use Rattle.claims.specs.Walks.{WalkIs, CountedIs};
 use crate::claim::CLAIM_WIDTH;
 use crate::claim::LARGEST_CLAIM;
 use crate::claim::PAIR_WIDTH;
@@ -141,7 +142,7 @@ pub fn risk_at(file: &[u8], place: BitPlace, limit: u32) -> Risk
 // One risk more, the one that begins where the risks passed so far end: of the sums over the first k risks and the place of risk
 // k + 1 it makes the sums over the first k + 1 and the next place. No risk before it is gone over again.
 pub fn pass_risk(file: &[u8], sums: SumsSoFar, limit: u32) -> PassedRisk
-    requires { ⌜ SumsAre (now file) limit (sums .risks) sums × (sums .risks < mostRisks) ⌝ }
+    requires { ⌜ NextRisk (now file) limit sums ⌝ }
     ensures { λ r. ⌜ RiskPassed (now (file .entry)) limit (sums .risks) r ⌝ }
 {
     let place = sums.next;
@@ -165,12 +166,11 @@ pub fn pass_risk(file: &[u8], sums: SumsSoFar, limit: u32) -> PassedRisk
     }
 }
 
-// The walk over so many risks from the header's end on, one after another.
+// The walk over so many risks, one after another, from a place on, which is the header's end.
 pub fn walk(file: &[u8], place: BitPlace, risks: u32, limit: u32) -> Walked
     requires { ⌜ (risks ≤ mostRisks) × (place .at ≡ headerBits) ⌝ }
     ensures { λ r. ⌜ WalkIs (now (file .entry)) risks limit r ⌝ }
 {
-    let n = risks as usize;
     let mut totals = [0u32; MOST_RISKS];
     let mut limiteds = [0u32; MOST_RISKS];
     let mut sums = SumsSoFar {
@@ -180,13 +180,12 @@ pub fn walk(file: &[u8], place: BitPlace, risks: u32, limit: u32) -> Walked
         limited: 0,
         next: place,
     };
-    let mut i: usize = 0;
-    while i < n {
+    while sums.risks < risks {
+        let i = sums.risks as usize;
         let risk = pass_risk(file, sums, limit);
         totals[i] = risk.total;
         limiteds[i] = risk.limited;
         sums = risk.sums;
-        i += 1;
     }
     let end = sums.next;
     Walked {
@@ -202,7 +201,7 @@ pub fn walk(file: &[u8], place: BitPlace, risks: u32, limit: u32) -> Walked
     }
 }
 
-// Goes over the counts of so many risks from the header's end on, and looks at no claim.
+// Goes over the counts of so many risks from such a place on, and looks at no claim.
 pub fn count_claims(file: &[u8], place: BitPlace, risks: u32) -> Counted
     requires { ⌜ (risks ≤ mostRisks) × (place .at ≡ headerBits) ⌝ }
     ensures { λ r. ⌜ CountedIs (now (file .entry)) risks r ⌝ }

@@ -1,5 +1,5 @@
-// A file opened: questions 1 to 9, 18 in its place among them, with all that Rate and Table take from it, or, as its outline, with
-// all that Read takes. Every call on a file passes this gate first; it needs no buffer.
+// A file opened: questions 1 to 9, 18 in its place among them, with all that Rate and Table take from it, or, as its outline,
+// with all that Read takes. Every call on a file passes this gate first; it needs no buffer.
 ghost use mathlib.Core.Path.{_≡_};
 ghost use Rattle.plan.specs.File.{endOf};
 ghost use Rattle.plan.specs.Questions.{firstNo, endQuestions, fileQuestions};
@@ -19,7 +19,8 @@ use group::Verdict;
 // Bytes of the header.
 pub const HEADER_BYTES: usize = 16;
 
-// The risks as they lie in a file, for a call that goes over them again: the place of the first, and the number of all claims.
+// The risks as they lie in a file, for a call that goes over their claims: the place of the first, and the number of all claims.
+// A file opened with its losses has them too, for a call that goes over the claims again.
 pub struct RiskRun {
     pub first: BitPlace,
     pub claims: u32,
@@ -99,8 +100,8 @@ pub fn open(file: &[u8]) -> Opened
     }
 }
 
-// The outline of a file of whatever bytes: the same questions, for a call that needs no losses. They are asked without a look at a
-// claim, since the counts say where the last field ends.
+// The outline of a file of whatever bytes: the same questions, for a call that needs no losses. They are asked without a look at
+// a claim, since the counts say where the last field ends.
 pub fn open_outline(file: &[u8]) -> Outline
     ensures { λ r. ⌜ OutlineIs (fileQuestions (now (file .entry))) (now (file .entry)) r ⌝ }
 {

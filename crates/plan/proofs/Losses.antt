@@ -2,7 +2,7 @@
 -- k + 1 risks: the sums so far. No A is above its L, and sizes are bounded item by item. Assumes nothing.
 use mathlib.Core.Path.{_≡_, refl, sym, ap, _∙_}
 use mathlib.Core.List.{List, [], _∷_, _++_, map, map-append}
-use Prim.Native.Nat.{ℕ, zero, suc, _+_, _*_, _≤_, _<_, min}
+use Prim.Native.Nat.{ℕ, zero, suc, _+_, _*_, _≤_, min}
 use native.Mathlib.Omega.{arith}
 use lib.ListN.{length, take, length-map}
 use Rattle.plan.specs.Arithmetic.{sum, sumOf}
@@ -22,7 +22,7 @@ pub limited-le : (limit x : ℕ) → limitedTo limit x ≤ x
 limited-le zero x = omega arith
 limited-le (suc l) x = omega arith
 
--- of claims, the limit leaves what it leaves of the largest one, and of a lesser one the claim itself
+-- what the limit leaves of a claim is the lesser of the claim and what it leaves of the largest claim
 pub most-limited : (limit claim : ℕ) → claim ≤ largestClaim → min claim (limitedTo limit largestClaim) ≡ limitedTo limit claim
 most-limited zero claim h = omega arith
 most-limited (suc l) claim h = omega arith
@@ -104,7 +104,8 @@ first-losses s limit at (suc k) (suc n) h =
     ap (λ (rs : List Losses). lossesOf limit (claimsAt s at) ∷ rs) (first-losses s limit (pastRisk s at) k n (omega arith))
 
 -- so the losses so far are those that a walk meets, for any k up to n
-pub losses-are-so-far : (s : List ℕ) (k : ℕ) → k ≤ riskCount s → lossesFrom s (headerOf s .lossLimit) headerBits k ≡ lossesSoFar s k
+pub losses-are-so-far : (s : List ℕ) (k : ℕ) → k ≤ riskCount s
+    → lossesFrom s (headerOf s .lossLimit) headerBits k ≡ lossesSoFar s k
 losses-are-so-far s k h = sym (first-losses s (headerOf s .lossLimit) headerBits k (riskCount s) h)
 
 -- and after the last risk they are all

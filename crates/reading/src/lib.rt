@@ -1,5 +1,5 @@
-// Read: a file's header values, claim counts and claims. The questions are decided by the counts; then the claims are gone over, once,
-// to store them.
+// Read: a file's header values, claim counts and claims. The questions are decided by the counts; then the claims are gone over,
+// once, to store them.
 ghost use mathlib.Core.Path.{_≡_};
 ghost use Prim.Native.Nat.{_+_, _≤_};
 ghost use lib.ListN.{length};

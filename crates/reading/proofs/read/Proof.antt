@@ -96,7 +96,8 @@ returns-2 c =
     let o = opened (r .before) in
     let a = start o .args in
     let enough : riskCount (a .file .now) ≤ length (a .counts .now) = omega (arith, r .if1 .left, risks o) in
-    let few : length (a .claims .now) < sum (countsOf (a .file .now)) = omega (arith, c .if2 .taken, o .open-outline .ensures .run .claims) in
+    let few : length (a .claims .now) < sum (countsOf (a .file .now)) =
+    omega (arith, c .if2 .taken, o .open-outline .ensures .run .claims) in
     refused-says (a .file .now) (a .counts .now) (a .claims .now)
     (verdict (a .file .now) (a .counts .now) (a .claims .now) (passes (r .before))
     (and-second-no (le-leb _ _ enough) (lt-leb _ _ few)))

@@ -20,8 +20,8 @@ cast-bits-2 c = search needs
 shl-bits : tie.Need-shl-bits
 shl-bits c = search needs
 
-add-next : tie.Need-add-next
-add-next c = search needs
+add-past : tie.Need-add-past
+add-past c = search needs
 
 returns : tie.Need-returns
 returns c =
@@ -38,4 +38,4 @@ returns c =
     }
 
 pub take-front-spec : {M : Type 1} → statement M
-take-front-spec = tie.close (tie.spec word-within-requires cast-bits cast-bits-2 shl-bits add-next returns)
+take-front-spec = tie.close (tie.spec word-within-requires cast-bits cast-bits-2 shl-bits add-past returns)

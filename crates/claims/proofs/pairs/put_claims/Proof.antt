@@ -128,7 +128,8 @@ put-claim-requires c κs =
     let t = c .before .before in
     let put = t .before .before .before in
     let l = put .before .before in
-    space-first _ _ (last-left (l .before .loop .inv) (l .loop-test .left) (put .put .ensures) (omega (arith, t .if1 .taken)) .space)
+    let last = last-left (l .before .loop .inv) (l .loop-test .left) (put .put .ensures) (omega (arith, t .if1 .taken)) in
+    space-first _ _ (last .space)
 
 -- what was put from the begun byte's bit on was put from the place on
 back : (e : tie.Start Inv-loop μ-loop) {u : List ℕ} {q : ℕ}

@@ -1,16 +1,14 @@
--- The invariant: the sums so far are those of the first 2 × i claims. The measure is the pairs to come. A turn takes the word from
--- the next claim on, and adds the claim on its front and, after a shift, the one behind it. Assumes nothing.
-use mathlib.Core.Path.{_≡_, refl, sym, _∙_, subst, subst₂}
+-- The invariant: the sums so far are those of the first 2 × i claims, and the place is where they end. The measure is the pairs
+-- to come. A turn takes the word from there on, and adds the claim on its front and, after a shift, the one behind it. Assumes
+-- nothing.
+use mathlib.Core.Path.{_≡_, refl, subst}
 use Prim.Native.Nat.{ℕ, _+_, _-_, _*_, _/_, _≤_, _<_}
 use native.Mathlib.Omega.{arith}
 use borrow.Author.Needs.{needs}
 use lib.Dec.{lit≤}
-use Rattle.plan.specs.Sizes.{mostClaims}
-use Rattle.plan.specs.Claim.{claimWidth, claimAt, pastClaim, claimsFrom, pastClaims}
-use Rattle.plan.specs.Losses.{totalOf, limitedOf}
-use Rattle.plan.proofs.Claims.{past-claims, past-more}
+use Rattle.plan.specs.Claim.{pastClaims}
+use Rattle.plan.proofs.Claims.{past-claims}
 use Rattle.claims.proofs.Walking.{front-reach, Summing, summing-starts, claim-room, summing-more, front-here, front-behind}
-use Rattle.claims.specs.declared.walk.ClaimSums.{ClaimSums}
 use Rattle.claims.proofs.walk.claims_at.Statement.{statement}
 use Rattle.claims.proofs.walk.claims_at.Tie as tie
 

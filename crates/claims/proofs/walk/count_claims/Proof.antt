@@ -1,5 +1,5 @@
--- The invariant: what was counted is the number of claims of the first i risks, and the place is where they end. The measure is the
--- risks to come. Assumes nothing.
+-- The invariant: what was counted is the number of claims of the first i risks, and the place is where they end. The measure is
+-- the risks to come. Assumes nothing.
 use mathlib.Core.Path.{_≡_, refl, ap, _∙_}
 use Prim.Native.Nat.{ℕ, _-_, _≤_}
 use native.Mathlib.Omega.{arith}

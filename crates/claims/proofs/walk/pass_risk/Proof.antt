@@ -1,5 +1,5 @@
 -- The risk is the one where the first k end, and each sum takes its part of it. Assumes nothing.
-use mathlib.Core.Path.{_≡_, refl}
+use mathlib.Core.Path.{refl}
 use native.Mathlib.Omega.{arith}
 use borrow.Author.Needs.{needs}
 use Rattle.claims.proofs.Walking.{risk-most, place-most, claims-most, total-most, limited-most, risk-passed}
@@ -7,20 +7,20 @@ use Rattle.claims.proofs.walk.pass_risk.Statement.{statement}
 use Rattle.claims.proofs.walk.pass_risk.Tie as tie
 
 risk-at-requires : tie.Need-risk-at-requires
-risk-at-requires c κs = let e = c .before .before in omega (arith, place-most (e .pre .0), e .pre .1)
+risk-at-requires c κs = let e = c .before .before in omega (arith, place-most (e .pre .sums), e .pre .few)
 
 -- from the risk that was taken, the entry
 abbrev entry : tie.After-risk-at → tie.Start
 entry c = c .before .before .before
 
 add-risks : tie.Need-add-risks
-add-risks c = let e = entry (c .before) in omega (arith, e .pre .1)
+add-risks c = let e = entry (c .before) in omega (arith, e .pre .few)
 
 add-claims : tie.Need-add-claims
 add-claims c =
     let r = c .before .before in
     let e = entry r in
-    omega (arith, claims-most (e .pre .0), e .pre .1, risk-most (r .risk-at .ensures) .count)
+    omega (arith, claims-most (e .pre .sums), e .pre .few, risk-most (r .risk-at .ensures) .count)
 
 cast-total : tie.Need-cast-total
 cast-total c = search needs
@@ -29,7 +29,7 @@ add-total : tie.Need-add-total
 add-total c =
     let r = c .before .before .before .before in
     let e = entry r in
-    omega (arith, total-most (e .pre .0), e .pre .1, risk-most (r .risk-at .ensures) .total)
+    omega (arith, total-most (e .pre .sums), e .pre .few, risk-most (r .risk-at .ensures) .total)
 
 cast-limited : tie.Need-cast-limited
 cast-limited c = search needs
@@ -39,12 +39,12 @@ add-limited c =
     let r = c .before .before .before .before .before .before in
     let e = entry r in
     let most = risk-most (r .risk-at .ensures) in
-    omega (arith, total-most (e .pre .0), limited-most (e .pre .0), e .pre .1, most .total, most .limited)
+    omega (arith, total-most (e .pre .sums), limited-most (e .pre .sums), e .pre .few, most .total, most .limited)
 
 returns : tie.Need-returns
 returns c =
     let r = c .before .before .before .before .before .before .before in
-    risk-passed (entry r .pre .0) (r .risk-at .ensures) refl refl refl refl refl
+    risk-passed (entry r .pre .sums) (r .risk-at .ensures) refl refl refl refl refl
 
 pub pass-risk-spec : {M : Type 1} → statement M
 pass-risk-spec =
