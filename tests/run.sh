@@ -1,8 +1,8 @@
 #!/usr/bin/env bash
 # Everything that is tested beside the proofs: the exported calls against the second rater, the
-# program retro, the example files, the programs in C, and that the gate's own checks can fail. It
-# needs target/bin/retro, which rt ci and rt check leave there; the archive is made here. Any failure
-# exits non-zero, a missing compiler too.
+# program retro, the example files, the programs in C, the benchmark's peers against the second
+# rater, and that the gate's own checks can fail. It needs target/bin/retro, which rt ci and rt check
+# leave there; the archive is made here. Any failure exits non-zero, a missing compiler or ar too.
 set -euo pipefail
 cd "$(dirname "$0")/.."
 

@@ -1,4 +1,6 @@
-//! The program `once` makes the call that it is asked for, and no other.
+//! The program `once` takes the name of each call, with sizes, and names a mistake in its arguments.
+//! Which call it makes shows in the count alone: of another function `--toggle-collect` counts
+//! nothing.
 
 use retro_tests::desk;
 use retro_tests::samples::AMPLE;
@@ -63,7 +65,7 @@ fn wrong_usage() {
     }
 }
 
-/// The groups that can be asked for are accepted by every call.
+/// Groups that can be asked for are rated: of some numbers of risks, with each number of claims.
 #[test]
 fn groups_are_rated() {
     for risks in [1, 2, 3, 16, 255] {

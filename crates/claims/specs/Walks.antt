@@ -1,6 +1,6 @@
 -- What the walk over a file's claims gives: of a claim, of a run of claims, of a risk, of the risks so far, and of all of them.
 use mathlib.Core.Path.{_≡_}
-use mathlib.Core.List.{List}
+use mathlib.Core.List.{List, map}
 use Prim.Native.Nat.{ℕ, _+_, _^_, _≤_, _<_, min}
 use Rattle.plan.specs.Arithmetic.{sum}
 use Rattle.plan.specs.Sizes.{largestClaim, mostRisks}
@@ -9,7 +9,7 @@ use Rattle.plan.specs.Claim.{claimsFrom, pastClaims}
 use Rattle.plan.specs.Risk.{countAt, firstClaim, claimsAt, pastRisk, countsFrom, pastRisks}
 use Rattle.plan.specs.Losses.{totalOf, limitedOf, SL, SA, lossesFrom}
 use Rattle.bits.specs.declared.Taken.{Taken}
-use Rattle.group.specs.Values.{LossesAre}
+use Rattle.group.specs.Values.{firstOf}
 use Rattle.claims.specs.declared.walk.ClaimSums.{ClaimSums}
 use Rattle.claims.specs.declared.walk.Risk.{Risk}
 use Rattle.claims.specs.declared.walk.SumsSoFar.{SumsSoFar}
@@ -76,8 +76,18 @@ pub record CountedIs (s : List ℕ) (n : ℕ) (r : Counted) : Type 0 where
   pub end : r .end .at ≡ pastRisks s headerBits n
   pub claims : r .claims ≡ sum (countsFrom s headerBits n)
 
--- all of the first n risks
+-- the running sums as the walk leaves them
+abbrev pub sumsOf : Walked → SumsSoFar
+sumsOf r = record {
+  risks = r .losses .risks;
+  claims = r .claims;
+  total = r .losses .total;
+  limited = r .losses .limited;
+  next = r .end;
+}
+
+-- all of the first n risks: the running sums over them, and L and A of each
 pub record WalkIs (s : List ℕ) (n limit : ℕ) (r : Walked) : Type 0 where
-  pub end : r .end .at ≡ pastRisks s headerBits n
-  pub claims : r .claims ≡ sum (countsFrom s headerBits n)
-  pub losses : LossesAre (lossesFrom s limit headerBits n) (r .losses)
+  pub sums : SumsAre s limit n (sumsOf r)
+  pub totals : r .losses .totals ≡ firstOf (map (λ r. r .total) (lossesFrom s limit headerBits n))
+  pub limiteds : r .losses .limiteds ≡ firstOf (map (λ r. r .limited) (lossesFrom s limit headerBits n))

@@ -201,7 +201,7 @@ pub fn walk(file: &[u8], place: BitPlace, risks: u32, limit: u32) -> Walked
     }
 }
 
-// Goes over the counts of so many risks from such a place on, and looks at no claim.
+// Goes over the counts of so many risks from a place on, which is the header's end, and looks at no claim.
 pub fn count_claims(file: &[u8], place: BitPlace, risks: u32) -> Counted
     requires { ⌜ (risks ≤ mostRisks) × (place .at ≡ headerBits) ⌝ }
     ensures { λ r. ⌜ CountedIs (now (file .entry)) risks r ⌝ }

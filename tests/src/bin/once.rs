@@ -2,8 +2,8 @@
 //!
 //!     valgrind --tool=callgrind --toggle-collect=retro_rate cargo-target/release/once rate
 //!
-//! `once CALL [RISKS [CLAIMS]]`: RISKS risks of CLAIMS claims each, without these 255 of 63, which
-//! is the largest file of `bench`. Exit status: 0; 2 for wrong usage.
+//! `once CALL [RISKS [CLAIMS]]`: RISKS risks of CLAIMS claims each; where they are not given, 255
+//! risks of 63 claims, the largest file of `bench`. Exit status: 0; 2 for wrong usage.
 //!
 //! The tuned peers are compiled for this machine. Those with vectors may have instructions that
 //! valgrind does not know, such as those of AVX-512; `objdump -d` shows their loops.

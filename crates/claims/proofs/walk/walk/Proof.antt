@@ -1,12 +1,10 @@
 -- The invariant: the running sums and the stored losses are those of the risks passed so far. The measure is the risks to come.
 -- Assumes nothing.
-use mathlib.Core.Path.{_≡_, refl, sym, subst}
+use mathlib.Core.Path.{_≡_, refl, subst}
 use Prim.Native.Nat.{ℕ, _-_, _≤_, _<_}
 use native.Mathlib.Omega.{arith}
 use borrow.Author.Needs.{needs}
 use Rattle.plan.specs.Sizes.{mostRisks}
-use Rattle.plan.specs.Header.{headerBits}
-use Rattle.plan.proofs.Losses.{length-losses-from}
 use Rattle.claims.specs.Walks.{SumsAre}
 use Rattle.claims.proofs.RunningSums.{own-sums, next-risk}
 use Rattle.claims.proofs.Walking.{sums-start, Stored, stored-starts, stored-more}
@@ -78,15 +76,9 @@ returns c =
     let w = subst (λ (k : ℕ). SumsAre s (a .limit) k (l .loop .sums)) all (l .loop .inv .0) in
     let e = subst (λ (k : ℕ). Stored s (a .limit) k (l .loop .totals) (l .loop .limiteds)) all (l .loop .inv .1) in
     record {
-      end = w .next;
-      claims = w .claims;
-      losses = record {
-        risks = sym (length-losses-from s (a .limit) headerBits (a .risks));
-        total = w .total;
-        limited = w .limited;
-        totals = e .totals-are;
-        limiteds = e .limiteds-are;
-      };
+      sums = record { risks = refl; claims = w .claims; total = w .total; limited = w .limited; next = w .next };
+      totals = e .totals-are;
+      limiteds = e .limiteds-are;
     }
 
 pub walk-spec : {M : Type 1} → statement M

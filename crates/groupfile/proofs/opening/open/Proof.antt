@@ -1,11 +1,14 @@
--- The walk is that of the file's own n and loss limit, from the header's end on. Assumes nothing.
-use mathlib.Core.Path.{ap, subst₂}
+-- The walk is that of the file's own n and loss limit, from the header's end on: after the last risk its running sums are SL and
+-- SA, and it is at the file's end. Assumes nothing.
+use mathlib.Core.Path.{sym, ap, _∙_, subst₂}
 use Prim.Native.Nat.{ℕ}
 use native.Mathlib.Omega.{arith}
 use borrow.Author.Needs.{needs}
 use Rattle.plan.specs.Header as plan
 use Rattle.plan.proofs.FileSizes.{risks-le}
+use Rattle.plan.proofs.Losses.{length-losses}
 use Rattle.claims.specs.Walks.{WalkIs}
+use Rattle.claims.proofs.RunningSums.{total-is-all, limited-is-all, next-is-end}
 use Rattle.groupfile.proofs.opening.open.Statement.{statement}
 use Rattle.groupfile.proofs.opening.open.Tie as tie
 
@@ -33,17 +36,25 @@ walked c =
     (c .walk .ensures)
 
 file-verdict-requires : tie.Need-file-verdict-requires
-file-verdict-requires c κs = (known (c .before) .header-of .ensures, walked c .end)
+file-verdict-requires c κs = (known (c .before) .header-of .ensures, next-is-end (walked c .sums))
 
 returns : tie.Need-returns
 returns c =
     let w = c .before .before in
-    let e = known (w .before) .header-of .ensures in
+    let h = known (w .before) in
+    let e = h .header-of .ensures in
+    let l = walked w in
     record {
       verdict = c .before .file-verdict .ensures;
       header = e .values;
-      run = record { first = e .next; claims = walked w .claims };
-      losses = walked w .losses;
+      run = record { first = e .next; claims = l .sums .claims };
+      losses = record {
+        risks = l .sums .risks ∙ sym (length-losses (h .before .before .args .file .now));
+        total = total-is-all (l .sums);
+        limited = limited-is-all (l .sums);
+        totals = l .totals;
+        limiteds = l .limiteds;
+      };
     }
 
 pub open-spec : {M : Type 1} → statement M
