@@ -11,7 +11,6 @@ ghost use Rattle.bits.specs.Runs.{Space, Wrote};
 ghost use Rattle.group.specs.Values.{headerIs};
 ghost use Rattle.putting.specs.Putting.{firstSlots, lastSlots, slotsOfRisk, Ready};
 use bits::BitPlace;
-use claims::pairs::put_claims;
 use claims::walk::COUNT_WIDTH;
 use group::Header;
 use groupfile::header::CONVERSION_WIDTH;
@@ -24,6 +23,7 @@ use groupfile::header::RISKS_WIDTH;
 use groupfile::header::SPARE_WIDTH;
 use groupfile::header::STANDARD_PREMIUM_WIDTH;
 use groupfile::header::TAX_WIDTH;
+use pairs::put_claims;
 
 // Puts edition to loss conversion factor, and gives the place after them.
 fn put_first(out: &mut [u8], h: Header) -> BitPlace

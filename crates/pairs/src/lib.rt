@@ -6,9 +6,9 @@ ghost use mathlib.Core.Path.{_≡_};
 ghost use Prim.Native.Nat.{_+_, _*_, _^_, _<_};
 ghost use Rattle.plan.specs.Claim.{claimWidth, slotsOfClaims};
 ghost use Rattle.bits.specs.Runs.{Space, Wrote};
-use crate::claim::CLAIM_WIDTH;
-use crate::claim::put_claim;
 use bits::BitPlace;
+use claims::claim::CLAIM_WIDTH;
+use claims::claim::put_claim;
 use words::extract;
 use words::join;
 

@@ -9,9 +9,9 @@ use lib.ListN.{length}
 use Rattle.plan.specs.Claim.{slotsOfClaims}
 use Rattle.bits.specs.Runs.{Space, Wrote}
 use Rattle.bits.proofs.Runs.{room, space-first, putting-run, putting-ends}
-use Rattle.claims.proofs.ByPairs.{Pairs, pairs-start, held-fits, pair-fits, five-bytes, pairs-more, last-left, none-left}
-use Rattle.claims.proofs.pairs.put_claims.Statement.{statement}
-use Rattle.claims.proofs.pairs.put_claims.Tie as tie
+use Rattle.pairs.proofs.ByPairs.{Pairs, pairs-start, held-fits, pair-fits, five-bytes, pairs-more, last-left, none-left}
+use Rattle.pairs.proofs.put_claims.Statement.{statement}
+use Rattle.pairs.proofs.put_claims.Tie as tie
 
 abbrev Inv-loop : tie.InvT-loop
 Inv-loop out₀ claims skip byte₀ held₀ i₀ out byte held i = Pairs out₀ (8 * byte₀ + skip) claims out skip byte held i

@@ -3,8 +3,8 @@ use mathlib.Core.Path.{ap, _∙_}
 use Prim.Native.Nat.{ℕ, _+_, _*_, _^_}
 use borrow.Author.Needs.{needs}
 use Rattle.plan.specs.Claim.{claimWidth}
-use Rattle.claims.proofs.pairs.pair_after.Statement.{statement}
-use Rattle.claims.proofs.pairs.pair_after.Tie as tie
+use Rattle.pairs.proofs.pair_after.Statement.{statement}
+use Rattle.pairs.proofs.pair_after.Tie as tie
 
 join-requires : tie.Need-join-requires
 join-requires c κs = search needs
