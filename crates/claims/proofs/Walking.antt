@@ -68,19 +68,20 @@ pub record Summing (s : List ℕ) (at limit i : ℕ) (r : ClaimSums) : Type 0 wh
 pub summing-starts : (s : List ℕ) (at limit : ℕ) {r : ClaimSums} → r .total ≡ 0 → r .limited ≡ 0 → Summing s at limit 0 r
 summing-starts s at limit l a = record { total-is = l; limited-is = a ∙ sym (none-limited limit) }
 
+-- what the limit leaves of the largest claim is no larger
+pub most-le : (limit : ℕ) {most : ℕ} → most ≡ limitedTo limit largestClaim → most ≤ largestClaim
+most-le limit m = omega (arith, m, limited-le limit largestClaim)
+
+-- a claim more can be added, of 63
+pub claim-room : {s : List ℕ} {at limit i : ℕ} {r : ClaimSums} {most : ℕ} → Summing s at limit i r → i < mostClaims
+    → most ≤ largestClaim → ClaimRoom r most
+claim-room {s} {at} {limit} {i} {r} w h b =
+    let l : r .total ≤ largestClaim * i = omega (arith, w .total-is, claims-total-le s at i) in
+    let a : r .limited ≤ r .total = omega (arith, w .total-is, w .limited-is, limited-total limit (claimsFrom s at i)) in
+    record { total = omega (arith, l); limited = omega (arith, l, a); bound = b }
+
 module _ {s : List ℕ} {at limit i : ℕ} {r : ClaimSums} (w : Summing s at limit i r) {most : ℕ}
     (m : most ≡ limitedTo limit largestClaim) where
-  -- a claim more can be added, of 63
-  pub claim-room : i < mostClaims → ClaimRoom r most
-  claim-room h =
-      let l : r .total ≤ largestClaim * i = omega (arith, w .total-is, claims-total-le s at i) in
-      let a : r .limited ≤ r .total = omega (arith, w .total-is, w .limited-is, limited-total limit (claimsFrom s at i)) in
-      record {
-        total = omega (arith, l);
-        limited = omega (arith, l, a);
-        bound = omega (arith, m, limited-le limit largestClaim);
-      }
-
   -- the claim after them
   abbrev pub nextClaim : ℕ
   nextClaim = claimAt s (pastClaims s at i)

@@ -8,7 +8,8 @@ use borrow.Author.Needs.{needs}
 use lib.Dec.{lit≤}
 use Rattle.plan.specs.Claim.{pastClaims}
 use Rattle.plan.proofs.Claims.{past-claims}
-use Rattle.claims.proofs.Walking.{front-reach, Summing, summing-starts, claim-room, summing-more, front-here, front-behind}
+use Rattle.claims.proofs.Walking.{front-reach, Summing, summing-starts, most-le, claim-room, summing-more}
+use Rattle.claims.proofs.Walking.{front-here, front-behind}
 use Rattle.claims.proofs.walk.claims_at.Statement.{statement}
 use Rattle.claims.proofs.walk.claims_at.Tie as tie
 
@@ -54,8 +55,9 @@ add-claim-requires : tie.Need-add-claim-requires Inv-loop μ-loop
 add-claim-requires c κs =
     let i = c .before in
     let n = known (i .before) in
-    claim-room (i .before .loop .inv .2) (n .limited-to .ensures)
+    claim-room (i .before .loop .inv .2)
     (omega (arith, pair-within (entry n .args .count) (i .before .loop .i) (i .loop-test .taken), entry n .pre .few))
+    (omega (arith, most-le (entry n .args .limit) (n .limited-to .ensures)))
 
 -- the first of the pair is added
 first-added : (c : tie.After-add-claim Inv-loop μ-loop)
@@ -80,8 +82,9 @@ add-claim-requires-2 c κs =
     let f = c .before in
     let i = f .before .before in
     let n = known (i .before) in
-    claim-room (first-added f) (n .limited-to .ensures)
+    claim-room (first-added f)
     (omega (arith, pair-within (entry n .args .count) (i .before .loop .i) (i .loop-test .taken), entry n .pre .few))
+    (omega (arith, most-le (entry n .args .limit) (n .limited-to .ensures)))
 
 add-i : tie.Need-add-i Inv-loop μ-loop
 add-i c = omega arith
@@ -141,7 +144,8 @@ add-claim-requires-3 : tie.Need-add-claim-requires-3 Inv-loop μ-loop
 add-claim-requires-3 c κs =
     let o = c .before in
     let n = known (o .before .before) in
-    claim-room (all-pairs (o .before) .1) (n .limited-to .ensures) (omega (arith, o .if1 .taken, entry n .pre .few))
+    claim-room (all-pairs (o .before) .1) (omega (arith, o .if1 .taken, entry n .pre .few))
+    (omega (arith, most-le (entry n .args .limit) (n .limited-to .ensures)))
 
 returns : tie.Need-returns Inv-loop μ-loop
 returns c =

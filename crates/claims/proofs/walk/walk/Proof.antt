@@ -45,13 +45,13 @@ mul-totals : tie.Need-mul-totals Inv-loop μ-loop
 mul-totals c = omega (arith, few (c .before))
 
 array-write-totals : tie.Need-array-write-totals Inv-loop μ-loop
-array-write-totals c = few (c .before)
+array-write-totals c = omega (arith, few (c .before))
 
 mul-limiteds : tie.Need-mul-limiteds Inv-loop μ-loop
 mul-limiteds c = omega (arith, few (c .before))
 
 array-write-limiteds : tie.Need-array-write-limiteds Inv-loop μ-loop
-array-write-limiteds c = few (c .before)
+array-write-limiteds c = omega (arith, few (c .before))
 
 loop-less : tie.Need-loop-less Inv-loop μ-loop
 loop-less c =
