@@ -2,7 +2,7 @@
 // put at a place, and either hands on the next place. `plan` defines what a field is; a bit past the end is 0.
 // Nothing here knows what a field means, or asks whether a file has it: that is for the file's reader.
 ghost use mathlib.Core.Path.{_≡_};
-ghost use Prim.Native.Nat.{_+_, _-_, _*_, _/_, _%_, _^_, _≤_, _<_};
+ghost use Prim.Native.Nat.{_+_, _-_, _/_, _%_, _^_, _≤_, _<_};
 ghost use lib.ListN.{length};
 ghost use Rattle.bits.specs.Take.{Reach, Took, FrontReach, FrontTaken};
 ghost use Rattle.bits.specs.Put.{Room, FiveBytes, Put, InByte};

@@ -1,7 +1,7 @@
 // The walk over a file's claims: step 1's losses of a risk and of the group, and where the last field ends; and that end by the
 // counts alone. Either is taken whatever the file's length, since bits past the end are 0, so it is a matter of the bytes alone.
 ghost use mathlib.Core.Path.{_≡_};
-ghost use Prim.Native.Nat.{_+_, _≤_, _<_};
+ghost use Prim.Native.Nat.{_+_, _≤_};
 ghost use Rattle.plan.specs.Header.{headerBits};
 ghost use Rattle.plan.specs.Losses.{limitedTo};
 ghost use Rattle.plan.specs.Risk.{countWidth};

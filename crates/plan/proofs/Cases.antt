@@ -10,7 +10,7 @@ use Rattle.plan.specs.Header.{Header, headerOf}
 use Rattle.plan.specs.Claim.{claimAt, pastClaim, slotsOfClaim, claimFits}
 use Rattle.plan.specs.Risk.{countAt, firstClaim}
 use Rattle.plan.specs.File.{fileOf}
-use Rattle.plan.specs.Losses.{Losses, limitedOf, SL, SA, lossesIn, lossesSoFar}
+use Rattle.plan.specs.Losses.{limitedOf, SL, SA, lossesIn, lossesSoFar}
 use Rattle.plan.specs.Marks.{LG, LH}
 use Rattle.plan.specs.Ratable.{SX, SS, ratable}
 use Rattle.plan.specs.Basic.{basicPremium, excessCharge}

@@ -5,12 +5,11 @@ use mathlib.Core.List.{List, [], _∷_, _++_, map, map-append}
 use Prim.Native.Nat.{ℕ, zero, suc, _+_, _*_, _≤_, min}
 use native.Mathlib.Omega.{arith}
 use lib.ListN.{length, take, length-map}
-use Rattle.plan.specs.Arithmetic.{sum, sumOf}
-use Rattle.plan.specs.Sizes.{largestClaim, mostClaims, mostRiskLosses}
+use Rattle.plan.specs.Arithmetic.{sumOf}
+use Rattle.plan.specs.Sizes.{largestClaim, mostRiskLosses}
 use Rattle.plan.specs.Header.{headerOf, headerBits, riskCount}
 use Rattle.plan.specs.Claim.{claimAt, pastClaim, claimsFrom, pastClaims}
 use Rattle.plan.specs.Risk.{countAt, firstClaim, claimsAt, pastRisk, risksFrom, pastRisks}
-use Rattle.plan.specs.File.{risksOf}
 use Rattle.plan.specs.Losses.{Losses, limitedTo, totalOf, limitedOf, lossesOf, SL, SA, lossesFrom, lossesIn, lossesSoFar}
 use Rattle.plan.proofs.Sums.{sum-le, sum-map, sum-append}
 use Rattle.plan.proofs.Claims.{claim-le, claims-more}
