@@ -4,12 +4,14 @@ use mathlib.Core.Path.{_≡_, refl}
 use mathlib.Core.List.{List, [], _∷_, map}
 use Prim.Native.Nat.{ℕ, _*_}
 use lib.IntN.{ℤ, pos, negsuc}
+use lib.ListN.{length, replicate}
 use Rattle.plan.specs.Arithmetic.{nearest}
 use Rattle.plan.specs.Field.{bit, number, field, bytesOf}
 use Rattle.plan.specs.Header.{Header, headerOf}
-use Rattle.plan.specs.Claim.{claimAt, pastClaim, slotsOfClaim, claimFits}
+use Rattle.plan.specs.Claim.{claim, claimWidth, claimAt, pastClaim, slotsOfClaim}
 use Rattle.plan.specs.Risk.{countAt, firstClaim}
-use Rattle.plan.specs.File.{fileOf}
+use Rattle.plan.specs.File.{Group, fileOf}
+use Rattle.plan.specs.Accidents.{accidentsOf}
 use Rattle.plan.specs.Losses.{limitedOf, SL, SA, lossesIn, lossesSoFar}
 use Rattle.plan.specs.Marks.{LG, LH}
 use Rattle.plan.specs.Ratable.{SX, SS, ratable}
@@ -17,7 +19,7 @@ use Rattle.plan.specs.Basic.{basicPremium, excessCharge}
 use Rattle.plan.specs.Premium.{billRounding, billWith}
 use Rattle.plan.specs.Demand3.{totalWith, taxedExpensesAndLosses}
 use Rattle.plan.specs.Table.{chargeSum, savingsSum, charge, savings}
-use Rattle.plan.specs.Calls.{Answer, refused, given, Rated, ratedOf, rate, Tabled, table, Group, read, write}
+use Rattle.plan.specs.Calls.{Answer, refused, given, Rated, ratedOf, rate, Tabled, table, read, write}
 use Rattle.plan.specs.Discount.{Layer, discount, guaranteedCost}
 use Rattle.plan.specs.Comparison.{Comparison, comparisonOf, compare}
 
@@ -35,12 +37,13 @@ header l p e c t k g h =
       minimumMark = h;
     }
 
+-- a group of edition 1: all bits are 0
 abbrev group : Header → List ℕ → List ℕ → Group
-group h counts claims = record { header = h; counts = counts; claims = claims }
+group h counts claims = record { edition = 1; header = h; counts = counts; claims = claims; joined = replicate (length claims) 0 }
 
 -- a file's values are g, and its bytes are those that g makes
 abbrev Written : Group → List ℕ → Type 0
-Written g s = fileOf (g .header) (g .counts) (g .claims) ≡ s
+Written g s = fileOf g ≡ s
 
 -- ---- the groups
 
@@ -126,12 +129,12 @@ FourCase =
     -- '1.05 × (8,000 + 24,000) = 33,600', and the total of the unrounded premiums
     × (taxedExpensesAndLosses fourFile ≡ 10000000 * 4 * 33600)
     × (totalWith fourFile (pos 6700000) 3300000 ≡ pos (10000000 * 4 * 33600))
-    × (read fourFile 4 6 ≡ given four)
+    × (read fourFile 4 6 6 ≡ given four)
     × (write four 34 ≡ given fourFile)
     × (rate fourFile 15 ≡ refused 13)
 
 fourCase : FourCase
-unfolding bytesOf number bit field claimAt pastClaim slotsOfClaim claimFits countAt firstClaim limitedOf LG LH SX SS ratable basicPremium excessCharge nearest billRounding billWith ratedOf rate totalWith taxedExpensesAndLosses read write
+unfolding bytesOf number bit field claimWidth claimAt pastClaim slotsOfClaim countAt firstClaim limitedOf LG LH SX SS ratable basicPremium excessCharge nearest billRounding billWith ratedOf rate totalWith taxedExpensesAndLosses read write
 fourCase = (refl, refl, refl, refl, refl, refl, refl, refl, refl, refl)
 
 -- 'Table on it: r 0 gives 1000 and 0; r 100 gives 321 and 321; r 200 gives 71 and 1071; r 300 gives 0 and 2000.' And r 25, where
@@ -145,7 +148,7 @@ TableCase =
     × (table fourFile 25 ≡ tables 813 63)
 
 tableCase : TableCase
-unfolding number bit field claimAt pastClaim countAt firstClaim limitedOf nearest chargeSum savingsSum charge savings table
+unfolding number bit field claimWidth claimAt pastClaim countAt firstClaim limitedOf nearest chargeSum savingsSum charge savings table
 tableCase = (refl, refl, refl, refl, refl)
 
 -- the other groups
@@ -173,7 +176,7 @@ OtherCases =
     × (lg limitsFile ≡ 30000)
 
 otherCases : OtherCases
-unfolding bytesOf number bit field claimAt pastClaim slotsOfClaim claimFits countAt firstClaim limitedOf LG LH SX SS ratable basicPremium excessCharge nearest billRounding billWith ratedOf rate totalWith taxedExpensesAndLosses
+unfolding bytesOf number bit field claimWidth claimAt pastClaim slotsOfClaim countAt firstClaim limitedOf LG LH SX SS ratable basicPremium excessCharge nearest billRounding billWith ratedOf rate totalWith taxedExpensesAndLosses
 otherCases =
     (refl, refl, refl, refl, refl, refl, refl, refl, refl, refl, refl, refl, refl, refl, refl, refl)
 
@@ -226,7 +229,7 @@ GuaranteedCase =
     × (compare tensFile2000 (layer 0 1001 ∷ layer 0 1001 ∷ layer 0 1001 ∷ layer 0 1001 ∷ []) 0 0 ≡ refused 12)
 
 guaranteedCase : GuaranteedCase
-unfolding number bit field claimAt pastClaim countAt firstClaim limitedOf LG LH SX SS ratable basicPremium excessCharge nearest billRounding billWith ratedOf discount guaranteedCost comparisonOf compare
+unfolding number bit field claimWidth claimAt pastClaim countAt firstClaim limitedOf LG LH SX SS ratable basicPremium excessCharge nearest billRounding billWith ratedOf discount guaranteedCost comparisonOf compare
 guaranteedCase = (refl, refl, refl, refl, refl, refl, refl, refl, refl, refl, refl, refl, refl, refl, refl)
 
 -- ---- document 02, job 2
@@ -272,7 +275,7 @@ MarksCase =
     × (lh crossingFile1000 ≡ 950)
     × (rate crossingFile1000 4 ≡ refused 18)
     -- 'in Rate, Read, Table and Write', and in job 1's call, which opens a file as Rate does
-    × (read crossingFile1 1 1 ≡ refused 18)
+    × (read crossingFile1 1 1 1 ≡ refused 18)
     × (table crossingFile1 100 ≡ refused 18)
     × (write (crossing 1) 20 ≡ refused 18)
     × (compare crossingFile1 (stock 0) 4 1 ≡ refused 18)
@@ -281,7 +284,7 @@ MarksCase =
     × (rate entryFile 4 ≡ refused 18)
     -- equal marks pass, and are rated, read and written
     × (rate equalFile 4 ≡ rates 1 (pos 1000) 0 1 (1 ∷ []))
-    × (read equalFile 1 1 ≡ given (marked 1 0 950 950))
+    × (read equalFile 1 1 1 ≡ given (marked 1 0 950 950))
     × (write (marked 1 0 950 950) 20 ≡ given equalFile)
     -- 'after 6 and before 7'
     × Written (marked 1 0 900 6001) aboveFile
@@ -292,7 +295,7 @@ MarksCase =
     × (write (group (crossing 1 .header) [] []) 16 ≡ refused 18)
 
 marksCase : MarksCase
-unfolding bytesOf number bit field claimAt pastClaim slotsOfClaim claimFits countAt firstClaim limitedOf LG LH SX SS ratable basicPremium excessCharge nearest billRounding billWith ratedOf rate table read write compare
+unfolding bytesOf number bit field claimWidth claimAt pastClaim slotsOfClaim countAt firstClaim limitedOf LG LH SX SS ratable basicPremium excessCharge nearest billRounding billWith ratedOf rate table read write compare
 marksCase =
     (refl, refl, refl, refl, refl, refl, refl, refl, refl, refl, refl, refl, refl, refl, refl, refl, refl, refl, refl, refl, refl, refl, refl)
 
@@ -311,9 +314,139 @@ SumsCase =
     × (SL (lossesIn fourFile) ≡ 24000)
 
 sumsCase : SumsCase
-unfolding number bit field claimAt pastClaim countAt firstClaim limitedOf
+unfolding number bit field claimWidth claimAt pastClaim countAt firstClaim limitedOf
 sumsCase = (refl, refl, refl, refl)
 
+-- ---- document 02, job 4
+
+-- a group of edition 2, with a bit for each claim
+abbrev joining : Header → List ℕ → List ℕ → List ℕ → Group
+joining h counts claims bits = record { edition = 2; header = h; counts = counts; claims = claims; joined = bits }
+
+-- the group of four in edition 2, no bit set
+abbrev fourJoining : Group
+fourJoining = joining (four .header) (four .counts) (four .claims) (0 ∷ 0 ∷ 0 ∷ 0 ∷ 0 ∷ 0 ∷ [])
+
+abbrev fourJoiningFile : List ℕ
+fourJoiningFile =
+    32 ∷ 19 ∷ 136 ∷ 0 ∷ 156 ∷ 64 ∷ 1 ∷ 244 ∷ 34 ∷ 98 ∷ 144 ∷ 64 ∷ 225 ∷ 1 ∷ 144 ∷ 8 ∷ 0 ∷ 32 ∷ 5 ∷ 220 ∷ 0 ∷ 15 ∷ 160
+    ∷ 16 ∷ 13 ∷ 172 ∷ 6 ∷ 1 ∷ 56 ∷ 128 ∷ 11 ∷ 184 ∷ 0 ∷ 31 ∷ 64 ∷ []
+
+-- 'A scaffold fell on two men': two risks, the first with 3,000 and 4,000, the other without claims; P 10,000, e 2,000, c 1.100,
+-- T 1.0000, limit 5,000, loss ratio marks 0.900 and 0.200
+abbrev scaffoldHeader : Header
+scaffoldHeader = header 5000 10000 2000 1100 10000 0 900 200
+
+abbrev scaffold : List ℕ → Group
+scaffold bits = joining scaffoldHeader (2 ∷ 0 ∷ []) (3000 ∷ 4000 ∷ []) bits
+
+-- in one accident
+abbrev scaffoldFile : List ℕ
+scaffoldFile =
+    32 ∷ 19 ∷ 136 ∷ 0 ∷ 156 ∷ 64 ∷ 1 ∷ 244 ∷ 34 ∷ 98 ∷ 113 ∷ 0 ∷ 225 ∷ 1 ∷ 144 ∷ 4 ∷ 8 ∷ 1 ∷ 119 ∷ 16 ∷ 15 ∷ 160 ∷ 0
+    ∷ []
+
+-- in two
+abbrev apartFile : List ℕ
+apartFile =
+    32 ∷ 19 ∷ 136 ∷ 0 ∷ 156 ∷ 64 ∷ 1 ∷ 244 ∷ 34 ∷ 98 ∷ 113 ∷ 0 ∷ 225 ∷ 1 ∷ 144 ∷ 4 ∷ 8 ∷ 1 ∷ 119 ∷ 0 ∷ 15 ∷ 160 ∷ 0
+    ∷ []
+
+-- in edition 1, where each claim is its own accident
+abbrev singleFile : List ℕ
+singleFile =
+    16 ∷ 19 ∷ 136 ∷ 0 ∷ 156 ∷ 64 ∷ 1 ∷ 244 ∷ 34 ∷ 98 ∷ 113 ∷ 0 ∷ 225 ∷ 1 ∷ 144 ∷ 4 ∷ 8 ∷ 2 ∷ 238 ∷ 0 ∷ 62 ∷ 128 ∷ 0
+    ∷ []
+
+-- four risks: both claims in one accident, in two, in one with 1,000 after it, and (1,000, 4,000 joined), 3,000
+abbrev accidentsFile : List ℕ
+accidentsFile =
+    32 ∷ 19 ∷ 136 ∷ 0 ∷ 156 ∷ 64 ∷ 1 ∷ 244 ∷ 34 ∷ 98 ∷ 113 ∷ 0 ∷ 225 ∷ 1 ∷ 144 ∷ 8 ∷ 8 ∷ 1 ∷ 119 ∷ 16 ∷ 15 ∷ 160 ∷ 8
+    ∷ 1 ∷ 119 ∷ 0 ∷ 15 ∷ 160 ∷ 12 ∷ 1 ∷ 119 ∷ 16 ∷ 15 ∷ 160 ∷ 0 ∷ 31 ∷ 64 ∷ 96 ∷ 3 ∷ 232 ∷ 128 ∷ 125 ∷ 0 ∷ 2 ∷ 238 ∷ 0
+    ∷ []
+
+-- two risks of one claim, the second with its bit set: it would run on from the first risk. The same with a fill bit set
+abbrev leading : Group
+leading = joining scaffoldHeader (1 ∷ 1 ∷ []) (3000 ∷ 4000 ∷ []) (0 ∷ 1 ∷ [])
+
+abbrev leadingFile : List ℕ
+leadingFile =
+    32 ∷ 19 ∷ 136 ∷ 0 ∷ 156 ∷ 64 ∷ 1 ∷ 244 ∷ 34 ∷ 98 ∷ 113 ∷ 0 ∷ 225 ∷ 1 ∷ 144 ∷ 4 ∷ 4 ∷ 1 ∷ 119 ∷ 0 ∷ 192 ∷ 62 ∷ 128
+    ∷ []
+
+abbrev leadingFilledFile : List ℕ
+leadingFilledFile =
+    32 ∷ 19 ∷ 136 ∷ 0 ∷ 156 ∷ 64 ∷ 1 ∷ 244 ∷ 34 ∷ 98 ∷ 113 ∷ 0 ∷ 225 ∷ 1 ∷ 144 ∷ 4 ∷ 4 ∷ 1 ∷ 119 ∷ 0 ∷ 192 ∷ 62 ∷ 131
+    ∷ []
+
+-- one claim of 0 with its bit set, and none
+abbrev leadingNothingFile : List ℕ
+leadingNothingFile =
+    32 ∷ 19 ∷ 136 ∷ 0 ∷ 156 ∷ 64 ∷ 1 ∷ 244 ∷ 34 ∷ 98 ∷ 113 ∷ 0 ∷ 225 ∷ 1 ∷ 144 ∷ 4 ∷ 6 ∷ 0 ∷ 0 ∷ 0 ∷ 0 ∷ []
+
+-- what is said of the group of four, of either edition
+abbrev fourRated : Answer Rated
+fourRated = rates 4 (pos 6700000) 3300000 33600 (4935 ∷ 7245 ∷ 8400 ∷ 13020 ∷ [])
+
+abbrev AccidentsCase : Type 0
+AccidentsCase =
+    -- 'A risk with 3,000 and 4,000 in one accident and limit 5,000 counts 5,000', Q shows the 2,000 cut off, and 'The total of the
+    -- premiums still includes what the accident limit cuts off': 4,000 of expenses and 7,000 of losses
+    Written (scaffold (0 ∷ 1 ∷ [])) scaffoldFile
+    × (totals scaffoldFile ≡ 7000 ∷ 0 ∷ [])
+    × (limiteds scaffoldFile ≡ 5000 ∷ 0 ∷ [])
+    × (rate scaffoldFile 8 ≡ rates 2 (pos 1100000) (1100 * 2000) 11000 (7150 ∷ 3850 ∷ []))
+    × (totalWith scaffoldFile (pos 1100000) 2200000 ≡ pos (10000000 * 2 * 11000))
+    × (taxedExpensesAndLosses scaffoldFile ≡ 10000000 * 2 * 11000)
+    × (read scaffoldFile 2 2 2 ≡ given (scaffold (0 ∷ 1 ∷ [])))
+    × (write (scaffold (0 ∷ 1 ∷ [])) 23 ≡ given scaffoldFile)
+    -- the same claims in two accidents count 7,000, and so in edition 1
+    × Written (scaffold (0 ∷ 0 ∷ [])) apartFile
+    × (limiteds apartFile ≡ 7000 ∷ 0 ∷ [])
+    × (rate apartFile 8 ≡ rates 2 (pos 1100000) 0 11000 (8250 ∷ 2750 ∷ []))
+    × (rate singleFile 8 ≡ rates 2 (pos 1100000) 0 11000 (8250 ∷ 2750 ∷ []))
+    × (read singleFile 2 2 2 ≡ given (group scaffoldHeader (2 ∷ 0 ∷ []) (3000 ∷ 4000 ∷ [])))
+    -- (3,000, 4,000 joined), 1,000 has A 6,000, and (1,000, 4,000 joined), 3,000 has 8,000
+    × (limiteds accidentsFile ≡ 5000 ∷ 7000 ∷ 6000 ∷ 8000 ∷ [])
+    × (accidentsOf (claim 0 3000 ∷ claim 1 4000 ∷ claim 0 1000 ∷ []) ≡ 7000 ∷ 1000 ∷ [])
+    × (accidentsOf (claim 0 1000 ∷ claim 1 4000 ∷ claim 0 3000 ∷ []) ≡ 5000 ∷ 3000 ∷ [])
+    -- an accident of 0 dollars exists; a claim may join with 0 dollars
+    × (accidentsOf (claim 0 0 ∷ claim 0 5 ∷ claim 1 0 ∷ claim 1 2 ∷ []) ≡ 0 ∷ 7 ∷ [])
+    -- the group of four in edition 2 with no bit set rates as in edition 1
+    × Written fourJoining fourJoiningFile
+    × (rate fourJoiningFile 16 ≡ fourRated)
+    × (rate fourFile 16 ≡ fourRated)
+    × (read fourJoiningFile 4 6 6 ≡ given fourJoining)
+    × (write fourJoining 35 ≡ given fourJoiningFile)
+    -- 19 in each call; after 9 and before 10
+    × (rate leadingFile 8 ≡ refused 19)
+    × (read leadingFile 2 2 2 ≡ refused 19)
+    × (table leadingFile 100 ≡ refused 19)
+    × (compare leadingFile (stock 0) 8 2 ≡ refused 19)
+    × (rate leadingFilledFile 8 ≡ refused 9)
+    × (rate leadingNothingFile 8 ≡ refused 19)
+    -- 'Write .. asks question 2 of the edition first'
+    × (write (record { edition = 3; header = header 0 0 0 0 0 0 0 0; counts = []; claims = []; joined = [] }) 0 ≡ refused 2)
+    × (write (record { edition = 0; header = header 0 0 0 0 0 0 0 0; counts = []; claims = []; joined = [] }) 0 ≡ refused 2)
+    -- 'a list not as long as the claims, an entry above 1, or a 1 given with edition 1 is a No to 15'
+    × (write (scaffold (0 ∷ [])) 23 ≡ refused 15)
+    × (write (scaffold (0 ∷ 1 ∷ 0 ∷ [])) 23 ≡ refused 15)
+    × (write (scaffold (0 ∷ 2 ∷ [])) 23 ≡ refused 15)
+    × (write (record { edition = 1; header = scaffoldHeader; counts = 2 ∷ 0 ∷ []; claims = 3000 ∷ 4000 ∷ []; joined = 0 ∷ 1 ∷ [] }) 23
+    ≡ refused 15)
+    -- '19 .. after 15 and before 13 in Write'
+    × (write (scaffold (1 ∷ 2 ∷ [])) 0 ≡ refused 15)
+    × (write leading 0 ≡ refused 19)
+    -- 13 asks for the room of the bits too, in edition 1 as well
+    × (read scaffoldFile 2 2 1 ≡ refused 13)
+    × (read singleFile 2 2 1 ≡ refused 13)
+
+accidentsCase : AccidentsCase
+unfolding bytesOf number bit field claimWidth claimAt pastClaim slotsOfClaim countAt firstClaim limitedOf LG LH SX SS ratable basicPremium excessCharge nearest billRounding billWith ratedOf rate totalWith taxedExpensesAndLosses table read write compare
+accidentsCase =
+    (refl, refl, refl, refl, refl, refl, refl, refl, refl, refl, refl, refl, refl, refl, refl, refl, refl, refl, refl,
+    refl, refl, refl, refl, refl, refl, refl, refl, refl, refl, refl, refl, refl, refl, refl, refl, refl, refl, refl)
+
 -- all of them: 'gathered as one checked list'
-pub provedCases : FourCase × TableCase × OtherCases × GuaranteedCase × MarksCase × SumsCase
-provedCases = (fourCase, tableCase, otherCases, guaranteedCase, marksCase, sumsCase)
+pub provedCases : FourCase × TableCase × OtherCases × GuaranteedCase × MarksCase × SumsCase × AccidentsCase
+provedCases = (fourCase, tableCase, otherCases, guaranteedCase, marksCase, sumsCase, accidentsCase)

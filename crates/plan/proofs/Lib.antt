@@ -9,6 +9,7 @@ pub mod Written
 pub mod Tests
 pub mod Claims
 pub mod Risks
+pub mod Accidents
 pub mod Losses
 pub mod Filled
 pub mod Questions

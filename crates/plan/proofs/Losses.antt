@@ -1,5 +1,6 @@
--- Laws of step 1. What the first k + 1 claims of a risk come to is what the first k do and the next one, and so for the first
--- k + 1 risks: the sums so far. No A is above its L, and sizes are bounded item by item. Assumes nothing.
+-- Laws of step 1. What the first k + 1 claims of a risk come to is what the first k do and the next one: all of it in L, and in A by
+-- the law of a claim more. So for the first k + 1 risks: the sums so far. No A is above its L, without a limit they are the same, and
+-- sizes are bounded item by item. Assumes nothing.
 use mathlib.Core.Path.{_≡_, refl, sym, ap, _∙_}
 use mathlib.Core.List.{List, [], _∷_, _++_, map, map-append}
 use Prim.Native.Nat.{ℕ, zero, suc, _+_, _*_, _≤_, min}
@@ -8,11 +9,13 @@ use lib.ListN.{length, take, length-map}
 use Rattle.plan.specs.Arithmetic.{sumOf}
 use Rattle.plan.specs.Sizes.{largestClaim, mostRiskLosses}
 use Rattle.plan.specs.Header.{headerOf, headerBits, riskCount}
-use Rattle.plan.specs.Claim.{claimAt, pastClaim, claimsFrom, pastClaims}
+use Rattle.plan.specs.Claim.{Claim, joined, dollars, claimAt, pastClaim, claimsFrom, pastClaims}
 use Rattle.plan.specs.Risk.{countAt, firstClaim, claimsAt, pastRisk, risksFrom, pastRisks}
+use Rattle.plan.specs.Accidents.{accidentsOf}
 use Rattle.plan.specs.Losses.{Losses, limitedTo, totalOf, limitedOf, lossesOf, SL, SA, lossesFrom, lossesIn, lossesSoFar}
 use Rattle.plan.proofs.Sums.{sum-le, sum-map, sum-append}
-use Rattle.plan.proofs.Claims.{claim-le, claims-more}
+use Rattle.plan.proofs.Claims.{dollars-le, claims-more}
+use Rattle.plan.proofs.Accidents.{lastOf, beforeLast, all-accidents, More, one-more, sum-accidents, last-le}
 use Rattle.plan.proofs.Risks.{count-le, length-risks, risks-more}
 
 -- ---- A is at most L
@@ -21,16 +24,26 @@ pub limited-le : (limit x : ℕ) → limitedTo limit x ≤ x
 limited-le zero x = omega arith
 limited-le (suc l) x = omega arith
 
--- what the limit leaves of a claim is the lesser of the claim and what it leaves of the largest claim
-pub most-limited : (limit claim : ℕ) → claim ≤ largestClaim → min claim (limitedTo limit largestClaim) ≡ limitedTo limit claim
-most-limited zero claim h = omega arith
-most-limited (suc l) claim h = omega arith
+-- nothing is left of nothing
+pub limited-none : (limit : ℕ) → limitedTo limit 0 ≡ 0
+limited-none limit = omega (arith, limited-le limit 0)
 
-pub limited-total : (limit : ℕ) (claims : List ℕ) → limitedOf limit claims ≤ totalOf claims
+-- what the limit leaves of a sum is the lesser of the sum and what it leaves of any number that is no less
+pub most-limited : (limit x most : ℕ) → x ≤ most → min x (limitedTo limit most) ≡ limitedTo limit x
+most-limited zero x most h = omega arith
+most-limited (suc l) x most h = omega arith
+
+pub limited-total : (limit : ℕ) (claims : List Claim) → limitedOf limit claims ≤ totalOf claims
 unfolding limitedOf
-limited-total limit claims = sum-le (limitedTo limit) (λ x. x) (limited-le limit) claims
+limited-total limit claims =
+    omega (arith, sum-le (limitedTo limit) (λ x. x) (limited-le limit) (accidentsOf claims), sum-accidents claims)
 
-pub SA≤SL : (limit : ℕ) (risks : List (List ℕ)) → SA (map (lossesOf limit) risks) ≤ SL (map (lossesOf limit) risks)
+-- 'without a limit A = L'
+pub no-limit : (claims : List Claim) → limitedOf 0 claims ≡ totalOf claims
+unfolding limitedOf
+no-limit claims = sum-accidents claims
+
+pub SA≤SL : (limit : ℕ) (risks : List (List Claim)) → SA (map (lossesOf limit) risks) ≤ SL (map (lossesOf limit) risks)
 SA≤SL limit risks =
     omega (
       arith,
@@ -45,21 +58,65 @@ pub none-limited : (limit : ℕ) → limitedOf limit [] ≡ 0
 unfolding limitedOf
 none-limited limit = refl
 
-pub total-so-far : (s : List ℕ) (at k : ℕ) → totalOf (claimsFrom s at (k + 1)) ≡ totalOf (claimsFrom s at k) + claimAt s (pastClaims s at k)
-total-so-far s at k =
-    ap totalOf (claims-more s at k) ∙ sum-append (λ x. x) (claimsFrom s at k) (claimAt s (pastClaims s at k) ∷ []) ∙ omega arith
+-- what the limit leaves of the accidents before the last
+abbrev pub beforeLimited : ℕ → List Claim → ℕ
+beforeLimited limit claims = beforeLast (limitedTo limit) claims
 
-pub limited-so-far : (limit : ℕ) (s : List ℕ) (at k : ℕ)
-    → limitedOf limit (claimsFrom s at (k + 1)) ≡ limitedOf limit (claimsFrom s at k) + limitedTo limit (claimAt s (pastClaims s at k))
+-- A is that, and what the limit leaves of the last
+pub limited-parts : (limit : ℕ) (claims : List Claim)
+    → limitedOf limit claims ≡ beforeLimited limit claims + limitedTo limit (lastOf claims)
 unfolding limitedOf
-limited-so-far limit s at k =
-    ap (sumOf (limitedTo limit)) (claims-more s at k)
-    ∙ sum-append (limitedTo limit) (claimsFrom s at k) (claimAt s (pastClaims s at k) ∷ [])
-    ∙ omega arith
+limited-parts limit claims = all-accidents (limitedTo limit) (limited-none limit) claims
+
+module _ (s : List ℕ) (at k : ℕ) where
+  -- the claim after the first k
+  abbrev pub claimAfter : Claim
+  claimAfter = claimAt s (pastClaims s at k)
+
+  pub total-so-far : totalOf (claimsFrom s at (k + 1)) ≡ totalOf (claimsFrom s at k) + dollars claimAfter
+  total-so-far = ap totalOf (claims-more s at k) ∙ sum-append dollars (claimsFrom s at k) (claimAfter ∷ []) ∙ omega arith
+
+  module _ (limit : ℕ) where
+    abbrev first : List Claim
+    first = claimsFrom s at k
+
+    abbrev more : List Claim
+    more = claimsFrom s at (k + 1)
+
+    law : More (limitedTo limit) first claimAfter
+    law = one-more (limitedTo limit) first claimAfter
+
+    -- a claim whose bit is 0 closes the last accident and opens one
+    pub last-opened : joined claimAfter ≡ 0 → lastOf (claimsFrom s at (k + 1)) ≡ dollars claimAfter
+    last-opened e = ap lastOf (claims-more s at k) ∙ law .opened-last e
+
+    pub before-opened : joined claimAfter ≡ 0
+        → beforeLimited limit (claimsFrom s at (k + 1))
+        ≡ beforeLimited limit (claimsFrom s at k) + limitedTo limit (lastOf (claimsFrom s at k))
+    before-opened e = ap (beforeLimited limit) (claims-more s at k) ∙ law .opened-before e
+
+    -- one whose bit is 1 adds to the last
+    pub last-joined : 1 ≤ joined claimAfter → lastOf (claimsFrom s at (k + 1)) ≡ lastOf (claimsFrom s at k) + dollars claimAfter
+    last-joined e = ap lastOf (claims-more s at k) ∙ law .joined-last e
+
+    pub before-joined : 1 ≤ joined claimAfter
+        → beforeLimited limit (claimsFrom s at (k + 1)) ≡ beforeLimited limit (claimsFrom s at k)
+    before-joined e = ap (beforeLimited limit) (claims-more s at k) ∙ law .joined-before e
+
+    -- where it is an accident of its own, A takes what the limit leaves of it
+    pub limited-so-far : joined claimAfter ≡ 0
+        → limitedOf limit (claimsFrom s at (k + 1)) ≡ limitedOf limit (claimsFrom s at k) + limitedTo limit (dollars claimAfter)
+    limited-so-far e =
+        limited-parts limit more
+        ∙ omega (arith, before-opened e, ap (limitedTo limit) (last-opened e), limited-parts limit first)
 
 pub claims-total-le : (s : List ℕ) (at k : ℕ) → totalOf (claimsFrom s at k) ≤ largestClaim * k
 claims-total-le s at zero = omega arith
-claims-total-le s at (suc k) = omega (arith, claim-le s at, claims-total-le s (pastClaim s at) k)
+claims-total-le s at (suc k) = omega (arith, dollars-le s at, claims-total-le s (pastClaim s at) k)
+
+-- and so is the last accident's sum
+pub last-accident-le : (s : List ℕ) (at k : ℕ) → lastOf (claimsFrom s at k) ≤ largestClaim * k
+last-accident-le s at k = omega (arith, last-le (claimsFrom s at k), claims-total-le s at k)
 
 -- L of a risk: 63 claims at most
 pub risk-total-le : (s : List ℕ) (at : ℕ) → totalOf (claimsAt s at) ≤ mostRiskLosses

@@ -5,12 +5,12 @@ use mathlib.Core.List.{List, [], _∷_}
 use Prim.Native.Nat.{ℕ, _≤_}
 use borrow.Author.Tests.{le-leb}
 use Rattle.plan.specs.Header.{Header, headerOf}
-use Rattle.plan.specs.File.{fileOf}
+use Rattle.plan.specs.File.{Group, groupOf, fileOf}
 use Rattle.plan.specs.Losses.{lossesIn}
 use Rattle.plan.specs.Table.{charge, savings}
 use Rattle.plan.specs.Questions.{Question, firstNo, question3, question4, question5, question6, question7}
 use Rattle.plan.specs.Questions.{headerQuestions, rateQuestions, tableQuestions, readQuestions, writeQuestions}
-use Rattle.plan.specs.Calls.{given, answer, ratedOf, rate, table, Group, groupOf, read, write}
+use Rattle.plan.specs.Calls.{given, answer, ratedOf, rate, table, read, write}
 use Rattle.plan.specs.Discount.{Layer}
 use Rattle.plan.specs.Comparison.{compareQuestions, comparisonOf, compare}
 use Rattle.plan.proofs.Tests.{and-yes}
@@ -35,8 +35,9 @@ pub record FileAnswersStay (s : List ℕ) : Type 0 where
   pub table-stays : (r : ℕ)
       → answer (firstNo (asItStood (tableQuestions s r))) (record { charge = charge (lossesIn s) r; savings = savings (lossesIn s) r })
       ≡ table s r
-  pub read-stays : (countsRoom claimsRoom : ℕ)
-      → answer (firstNo (asItStood (readQuestions s countsRoom claimsRoom))) (groupOf s) ≡ read s countsRoom claimsRoom
+  pub read-stays : (countsRoom claimsRoom joinedRoom : ℕ)
+      → answer (firstNo (asItStood (readQuestions s countsRoom claimsRoom joinedRoom))) (groupOf s)
+      ≡ read s countsRoom claimsRoom joinedRoom
   pub compare-stays : (ls : List Layer) (premiumsRoom differencesRoom : ℕ)
       → answer (firstNo (asItStood (compareQuestions s ls premiumsRoom differencesRoom))) (comparisonOf ls (headerOf s) (lossesIn s))
       ≡ compare s ls premiumsRoom differencesRoom
@@ -48,19 +49,17 @@ file-answers-stay s h =
     record {
       rate-stays = λ room. answered _ (left-out 18 (rateQuestions s room) yes);
       table-stays = λ r. answered _ (left-out 18 (tableQuestions s r) yes);
-      read-stays = λ countsRoom claimsRoom. answered _ (left-out 18 (readQuestions s countsRoom claimsRoom) yes);
+      read-stays = λ countsRoom claimsRoom joinedRoom.
+          answered _ (left-out 18 (readQuestions s countsRoom claimsRoom joinedRoom) yes);
       compare-stays = λ ls premiumsRoom differencesRoom.
           answered _ (left-out 18 (compareQuestions s ls premiumsRoom differencesRoom) yes);
     }
 
 -- of Write, of values that pass 18
 pub write-stays : (g : Group) → g .header .minimumMark ≤ g .header .maximumMark → (room : ℕ)
-    → answer (firstNo (asItStood (writeQuestions (g .header) (g .counts) (g .claims) room)))
-    (fileOf (g .header) (g .counts) (g .claims))
-    ≡ write g room
+    → answer (firstNo (asItStood (writeQuestions g room))) (fileOf g) ≡ write g room
 unfolding write
-write-stays g h room =
-    answered _ (left-out 18 (writeQuestions (g .header) (g .counts) (g .claims) room) (and-yes (le-leb _ _ h) refl))
+write-stays g h room = answered _ (left-out 18 (writeQuestions g room) (and-yes (le-leb _ _ h) refl))
 
 -- ---- what is still accepted
 

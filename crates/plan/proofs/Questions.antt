@@ -1,7 +1,8 @@
 -- Laws of the questions. The first No of a gate and a list that goes on from it is the gate's, else that of the rest; where all
 -- are passed, the answer looked up by any number that is asked is Yes. So a gate's Yes gives the facts that its questions ask
 -- for, and those facts give its Yes: each question has a line of its own in either direction. Leaving out a question that is
--- answered Yes changes no first No. A range of questions, as 1 to 9, has 18 in its place, after 6 and before 7. Assumes nothing.
+-- answered Yes changes no first No. A range of questions, as 1 to 9, has 18 in its place, after 6 and before 7, and 19 in its, after 9.
+-- Assumes nothing.
 use mathlib.Core.Path.{_≡_, refl, _∙_, sym, ap}
 use mathlib.Core.Bool.{Bool, true, false, cond, _&&_, _||_}
 use mathlib.Core.List.{List, [], _∷_, _++_}
@@ -11,13 +12,15 @@ use lib.IntN.{ℤ, pos, negsuc}
 use lib.Signed.{nonNeg}
 use lib.ListN.{length}
 use borrow.Author.Tests.{leb-true, le-leb, eqb-true, eq-eqb}
-use Rattle.plan.specs.Header.{Header, headerOf, riskCount, valueOf, editionField, spareField}
+use Rattle.plan.specs.Header.{Header, headerOf, editionOf, riskCount, valueOf, spareField}
 use Rattle.plan.specs.Field.{bytesFor}
-use Rattle.plan.specs.File.{endOf, fillOf}
+use Rattle.plan.specs.File.{Group, risksOf, endOf, fillOf}
+use Rattle.plan.specs.Accidents.{allOpen}
 use Rattle.plan.specs.Losses.{Losses, SA, lossesIn}
 use Rattle.plan.specs.Marks.{LG, LH}
 use Rattle.plan.specs.Basic.{basicPremium}
-use Rattle.plan.specs.Questions.{Question, ask, Verdict, passed, failed, firstNo, orElse, question1, question2, question10}
+use Rattle.plan.specs.Questions.{Question, ask, Verdict, passed, failed, firstNo, orElse, knownEdition, question1, question2}
+use Rattle.plan.specs.Questions.{question10}
 use Rattle.plan.specs.Questions.{headerQuestions, endQuestions, fileQuestions, balanceQuestions, lossQuestions, ratingQuestions}
 use Rattle.plan.specs.Questions.{rateQuestions, tableQuestions, readQuestions, writeQuestions}
 use Rattle.plan.specs.Bounds.{HeaderSound}
@@ -31,13 +34,14 @@ numbers [] = []
 numbers (ask k b ∷ qs) = k ∷ numbers qs
 
 -- 'Rate asks 1 to 13. Table asks 1 to 10, then 14. Read asks 1 to 9, then 13. Write asks 3 to 7, then 15, then 13.' And document 02,
--- job 2: '18 .., after 6 and before 7, in Rate, Read, Table and Write'
-asked-in-order : (s : List ℕ) (room r countsRoom claimsRoom : ℕ) (h : Header) (counts claims : List ℕ)
-    → (numbers (rateQuestions s room) ≡ 1 ∷ 2 ∷ 3 ∷ 4 ∷ 5 ∷ 6 ∷ 18 ∷ 7 ∷ 8 ∷ 9 ∷ 10 ∷ 11 ∷ 12 ∷ 13 ∷ [])
-    × (numbers (tableQuestions s r) ≡ 1 ∷ 2 ∷ 3 ∷ 4 ∷ 5 ∷ 6 ∷ 18 ∷ 7 ∷ 8 ∷ 9 ∷ 10 ∷ 14 ∷ [])
-    × (numbers (readQuestions s countsRoom claimsRoom) ≡ 1 ∷ 2 ∷ 3 ∷ 4 ∷ 5 ∷ 6 ∷ 18 ∷ 7 ∷ 8 ∷ 9 ∷ 13 ∷ [])
-    × (numbers (writeQuestions h counts claims room) ≡ 3 ∷ 4 ∷ 5 ∷ 6 ∷ 18 ∷ 7 ∷ 15 ∷ 13 ∷ [])
-asked-in-order s room r countsRoom claimsRoom h counts claims = (refl, refl, refl, refl)
+-- job 2: '18 .., after 6 and before 7, in Rate, Read, Table and Write'; job 4: '19 .., after 9 in Rate, Read and Table, after 15 and
+-- before 13 in Write', which 'asks question 2 of the edition first'
+asked-in-order : (s : List ℕ) (room r countsRoom claimsRoom joinedRoom : ℕ) (g : Group)
+    → (numbers (rateQuestions s room) ≡ 1 ∷ 2 ∷ 3 ∷ 4 ∷ 5 ∷ 6 ∷ 18 ∷ 7 ∷ 8 ∷ 9 ∷ 19 ∷ 10 ∷ 11 ∷ 12 ∷ 13 ∷ [])
+    × (numbers (tableQuestions s r) ≡ 1 ∷ 2 ∷ 3 ∷ 4 ∷ 5 ∷ 6 ∷ 18 ∷ 7 ∷ 8 ∷ 9 ∷ 19 ∷ 10 ∷ 14 ∷ [])
+    × (numbers (readQuestions s countsRoom claimsRoom joinedRoom) ≡ 1 ∷ 2 ∷ 3 ∷ 4 ∷ 5 ∷ 6 ∷ 18 ∷ 7 ∷ 8 ∷ 9 ∷ 19 ∷ 13 ∷ [])
+    × (numbers (writeQuestions g room) ≡ 2 ∷ 3 ∷ 4 ∷ 5 ∷ 6 ∷ 18 ∷ 7 ∷ 15 ∷ 19 ∷ 13 ∷ [])
+asked-in-order s room r countsRoom claimsRoom joinedRoom g = (refl, refl, refl, refl)
 
 -- ---- one question
 
@@ -181,7 +185,7 @@ pub record FileSound (s : List ℕ) : Type 0 where
   -- 1
   pub long : 16 ≤ length s
   -- 2
-  pub edition-is : valueOf s editionField ≡ 1
+  pub edition-known : knownEdition (editionOf s) ≡ true
   pub spare-is : valueOf s spareField ≡ 0
   -- 3 to 7
   pub header : HeaderSound (headerOf s) (riskCount s)
@@ -189,6 +193,8 @@ pub record FileSound (s : List ℕ) : Type 0 where
   pub ends : length s ≡ bytesFor (endOf s)
   -- 9
   pub fill : fillOf s ≡ 0
+  -- 19
+  pub all-open : allOpen (risksOf s) ≡ true
 
 -- 1 and 2
 abbrev firstQuestions : List ℕ → List Question
@@ -201,18 +207,19 @@ file-sound s e =
     let later = passed-both (firstQuestions s) (headerQuestions (headerOf s) (riskCount s) ++ endQuestions s) e .1 in
     record {
       long = leb-true _ _ (yes-to 1 qs refl e);
-      edition-is = eqb-true _ _ (two .0);
+      edition-known = two .0;
       spare-is = eqb-true _ _ (two .1);
       header = header-sound (headerOf s) (riskCount s) (passed-both (headerQuestions (headerOf s) (riskCount s)) (endQuestions s) later .0);
       ends = eqb-true _ _ (yes-to 8 qs refl e);
       fill = eqb-true _ _ (yes-to 9 qs refl e);
+      all-open = yes-to 19 qs refl e;
     }
 
 pub file-passes : (s : List ℕ) → FileSound s → firstNo (fileQuestions s) ≡ passed
 file-passes s f =
-    simp (le-leb _ _ (f .long), eq-eqb _ _ (f .edition-is), eq-eqb _ _ (f .spare-is))
+    simp (le-leb _ _ (f .long), f .edition-known, eq-eqb _ _ (f .spare-is))
     (after-gate (headerQuestions (headerOf s) (riskCount s)) (endQuestions s) (header-passes (headerOf s) (riskCount s) (f .header))
-    ∙ simp (eq-eqb _ _ (f .ends), eq-eqb _ _ (f .fill)))
+    ∙ simp (eq-eqb _ _ (f .ends), eq-eqb _ _ (f .fill), f .all-open))
 
 -- of a file that passes 1 to 10
 pub record LossSound (s : List ℕ) : Type 0 where

@@ -2,7 +2,7 @@
 -- it lies, and that the first k + 1 risks are the first k and the next. Assumes nothing.
 use mathlib.Core.Path.{_≡_, refl, sym, ap, ap₂, _∙_, subst}
 use mathlib.Core.Bool.{true}
-use mathlib.Core.List.{List, [], _∷_, _++_, append-assoc, append-nil}
+use mathlib.Core.List.{List, [], _∷_, _++_, append-assoc, append-nil, map, map-append}
 use Prim.Native.Nat.{ℕ, zero, suc, _+_, _-_, _*_, _≤_, _<_}
 use native.Mathlib.Nat.{zero-add}
 use native.Mathlib.Omega.{arith}
@@ -12,14 +12,16 @@ use lib.Seq.{length-take-le, take-at, drop-at}
 use Rattle.plan.specs.Arithmetic.{sum}
 use Rattle.plan.specs.Sizes.{mostClaims, mostRiskBits}
 use Rattle.plan.specs.Field.{Slot, slot, slots, totalWidth, Laid, Fitting, allFit}
-use Rattle.plan.specs.Claim.{claimWidth, claimsFrom, pastClaims, slotsOfClaims, claimsFit}
+use Rattle.plan.specs.Header.{editionOf}
+use Rattle.plan.specs.Claim.{Claim, joined, dollars, joinedWidth, dollarsWidth, claimWidth, claimsFrom, pastClaims}
+use Rattle.plan.specs.Claim.{slotsOfClaims, claimsOf}
 use Rattle.plan.specs.Risk.{countWidth, countAt, firstClaim, claimsAt, pastRisk, countsFrom, risksFrom, pastRisks, allClaims}
-use Rattle.plan.specs.Risk.{slotsOfRisks}
+use Rattle.plan.specs.Risk.{divided, slotsOfRisks}
 use Rattle.plan.proofs.Tests.{and-yes}
 use Rattle.plan.proofs.Fields.{field-lt}
 use Rattle.plan.proofs.Written.{width-append, laid-append, laid-first, laid-second, fitting-append}
-use Rattle.plan.proofs.Claims.{length-claims, past-claims, claims-width, claims-end, claims-laid, laid-claims, claims-fitting}
-use Rattle.plan.proofs.Claims.{fit-taken, fit-append, fit-take, fit-drop}
+use Rattle.plan.proofs.Claims.{length-claims, past-claims-le, claims-width, claims-end, claims-laid, laid-claims, claims-fitting}
+use Rattle.plan.proofs.Claims.{take-claims-of, drop-claims-of, dollars-fit, joined-fit, fit-append, fit-take, fit-drop}
 
 -- ---- one risk
 
@@ -44,7 +46,7 @@ length-claims-at s at = length-claims s (firstClaim at) (countAt s at)
 
 -- a risk takes at most a count and 63 claims
 pub past-risk-le : (s : List ℕ) (at : ℕ) → pastRisk s at ≤ at + mostRiskBits
-past-risk-le s at = omega (arith, past-claims s (firstClaim at) (countAt s at), first-claim at, count-le s at)
+past-risk-le s at = omega (arith, past-claims-le s (firstClaim at) (countAt s at), first-claim at, count-le s at)
 
 -- ---- a run of risks: how many, and where they end
 
@@ -92,15 +94,15 @@ counts-more s at (suc k) =
 pub risks-more : (s : List ℕ) (at k : ℕ) → risksFrom s at (k + 1) ≡ risksFrom s at k ++ claimsAt s (pastRisks s at k) ∷ []
 risks-more s at zero = ap (risksFrom s at) (zero-add 1)
 risks-more s at (suc k) =
-    ap (risksFrom s at) (suc-add k) ∙ ap (λ (l : List (List ℕ)). claimsAt s at ∷ l) (risks-more s (pastRisk s at) k)
+    ap (risksFrom s at) (suc-add k) ∙ ap (λ (l : List (List Claim)). claimsAt s at ∷ l) (risks-more s (pastRisk s at) k)
 
 -- their claims one after another, likewise
 pub all-more : (s : List ℕ) (at k : ℕ) → allClaims (risksFrom s at (k + 1)) ≡ allClaims (risksFrom s at k) ++ claimsAt s (pastRisks s at k)
 all-more s at k = ap allClaims (risks-more s at k) ∙ all-append (risksFrom s at k) (claimsAt s (pastRisks s at k))
   where
-    all-append : (rs : List (List ℕ)) (last : List ℕ) → allClaims (rs ++ last ∷ []) ≡ allClaims rs ++ last
+    all-append : (rs : List (List Claim)) (last : List Claim) → allClaims (rs ++ last ∷ []) ≡ allClaims rs ++ last
     all-append [] last = append-nil last
-    all-append (r ∷ rs) last = ap (λ (l : List ℕ). r ++ l) (all-append rs last) ∙ sym (append-assoc r (allClaims rs) last)
+    all-append (r ∷ rs) last = ap (λ (l : List Claim). r ++ l) (all-append rs last) ∙ sym (append-assoc r (allClaims rs) last)
 
 -- and the counts of the first risks add to no more than those of more risks
 pub sum-prefix : (s : List ℕ) (at k n : ℕ) → k ≤ n → sum (countsFrom s at k) ≤ sum (countsFrom s at n)
@@ -108,110 +110,137 @@ sum-prefix s at zero n h = omega arith
 sum-prefix s at (suc k) zero h = absurd (omega arith)
 sum-prefix s at (suc k) (suc n) h = omega (arith, sum-prefix s (pastRisk s at) k n (omega arith))
 
+-- a part of their claims one after another, as the dollars, likewise
+pub parts-more : (part : Claim → ℕ) (s : List ℕ) (at k : ℕ)
+    → map part (allClaims (risksFrom s at (k + 1))) ≡ map part (allClaims (risksFrom s at k)) ++ map part (claimsAt s (pastRisks s at k))
+parts-more part s at k =
+    ap (map part) (all-more s at k) ∙ map-append part (allClaims (risksFrom s at k)) (claimsAt s (pastRisks s at k))
+
 -- ---- as fields
 
 -- a risk's claims are those that its count takes
-first-claims : (s : List ℕ) (at : ℕ) (rest : List ℕ) → take (countAt s at) (claimsAt s at ++ rest) ≡ claimsAt s at
+first-claims : (s : List ℕ) (at : ℕ) (rest : List Claim) → take (countAt s at) (claimsAt s at ++ rest) ≡ claimsAt s at
 first-claims s at rest = take-at (claimsAt s at) rest (countAt s at) (length-claims-at s at)
 
-later-claims : (s : List ℕ) (at : ℕ) (rest : List ℕ) → drop (countAt s at) (claimsAt s at ++ rest) ≡ rest
+later-claims : (s : List ℕ) (at : ℕ) (rest : List Claim) → drop (countAt s at) (claimsAt s at ++ rest) ≡ rest
 later-claims s at rest = drop-at (claimsAt s at) rest (countAt s at) (length-claims-at s at)
 
--- the fields of one risk, and of those behind it
-risk-slots : (s : List ℕ) (at : ℕ) (ks rest : List ℕ)
-    → slotsOfRisks (countAt s at ∷ ks) (claimsAt s at ++ rest)
-    ≡ slot countWidth (countAt s at) ∷ (slotsOfClaims (claimsAt s at) ++ slotsOfRisks ks rest)
-risk-slots s at ks rest =
-    ap₂ (λ (a b : List ℕ). slot countWidth (countAt s at) ∷ (slotsOfClaims a ++ slotsOfRisks ks b))
-    (first-claims s at rest) (later-claims s at rest)
+-- risks whose counts and claims are written are those risks again
+pub divided-again : (s : List ℕ) (at n : ℕ) → divided (countsFrom s at n) (allClaims (risksFrom s at n)) ≡ risksFrom s at n
+divided-again s at zero = refl
+divided-again s at (suc n) =
+    let rest : List Claim = allClaims (risksFrom s (pastRisk s at) n) in
+    ap₂ (λ (a b : List Claim). a ∷ divided (countsFrom s (pastRisk s at) n) b) (first-claims s at rest) (later-claims s at rest)
+    ∙ ap (λ (l : List (List Claim)). claimsAt s at ∷ l) (divided-again s (pastRisk s at) n)
 
--- where risks are taken their fields lie
-pub risks-laid : (s : List ℕ) (at n : ℕ) → Laid s at (slotsOfRisks (countsFrom s at n) (allClaims (risksFrom s at n)))
-risks-laid s at zero = tt
-risks-laid s at (suc n) =
-    let rest : List ℕ = allClaims (risksFrom s (pastRisk s at) n) in
-    let ks : List ℕ = countsFrom s (pastRisk s at) n in
-    let own : List Slot = slotsOfClaims (claimsAt s at) in
-    let place : pastRisk s at ≡ firstClaim at + totalWidth own = sym (claims-end s (firstClaim at) (countAt s at)) in
-    let next : Laid s (firstClaim at + totalWidth own) (slotsOfRisks ks rest) =
-    subst (λ (x : ℕ). Laid s x (slotsOfRisks ks rest)) place (risks-laid s (pastRisk s at) n) in
-    subst (Laid s at) (sym (risk-slots s at ks rest))
-    (count-laid s at (own ++ slotsOfRisks ks rest)
-    (laid-append s (firstClaim at) own (slotsOfRisks ks rest) (claims-laid s (firstClaim at) (countAt s at)) next))
+module _ (s : List ℕ) where
+  -- the fields of claims, and of risks, in the file's own edition
+  abbrev own : List Claim → List Slot
+  own = slotsOfClaims (editionOf s)
 
--- and end where the last of them ends
-pub risks-end : (s : List ℕ) (at n : ℕ)
-    → at + totalWidth (slotsOfRisks (countsFrom s at n) (allClaims (risksFrom s at n))) ≡ pastRisks s at n
-risks-end s at zero = omega arith
-risks-end s at (suc n) =
-    let rest : List ℕ = allClaims (risksFrom s (pastRisk s at) n) in
-    let ks : List ℕ = countsFrom s (pastRisk s at) n in
-    omega (
-      arith,
-      ap totalWidth (risk-slots s at ks rest),
-      width-append (slotsOfClaims (claimsAt s at)) (slotsOfRisks ks rest),
-      claims-end s (firstClaim at) (countAt s at),
-      first-claim at,
-      risks-end s (pastRisk s at) n,
-    )
+  abbrev owns : List ℕ → List Claim → List Slot
+  owns = slotsOfRisks (editionOf s)
+
+  -- the fields of one risk, and of those behind it
+  risk-slots : (at : ℕ) (ks : List ℕ) (rest : List Claim)
+      → owns (countAt s at ∷ ks) (claimsAt s at ++ rest)
+      ≡ slot countWidth (countAt s at) ∷ (own (claimsAt s at) ++ owns ks rest)
+  risk-slots at ks rest =
+      ap₂ (λ (a b : List Claim). slot countWidth (countAt s at) ∷ (own a ++ owns ks b))
+      (first-claims s at rest) (later-claims s at rest)
+
+  -- where risks are taken their fields lie
+  pub risks-laid : (at n : ℕ) → Laid s at (slotsOfRisks (editionOf s) (countsFrom s at n) (allClaims (risksFrom s at n)))
+  risks-laid at zero = tt
+  risks-laid at (suc n) =
+      let rest : List Claim = allClaims (risksFrom s (pastRisk s at) n) in
+      let ks : List ℕ = countsFrom s (pastRisk s at) n in
+      let first : List Slot = own (claimsAt s at) in
+      let place : pastRisk s at ≡ firstClaim at + totalWidth first = sym (claims-end s (firstClaim at) (countAt s at)) in
+      let next : Laid s (firstClaim at + totalWidth first) (owns ks rest) =
+      subst (λ (x : ℕ). Laid s x (owns ks rest)) place (risks-laid (pastRisk s at) n) in
+      subst (Laid s at) (sym (risk-slots at ks rest))
+      (count-laid s at (first ++ owns ks rest)
+      (laid-append s (firstClaim at) first (owns ks rest) (claims-laid s (firstClaim at) (countAt s at)) next))
+
+  -- and end where the last of them ends
+  pub risks-end : (at n : ℕ)
+      → at + totalWidth (slotsOfRisks (editionOf s) (countsFrom s at n) (allClaims (risksFrom s at n))) ≡ pastRisks s at n
+  risks-end at zero = omega arith
+  risks-end at (suc n) =
+      let rest : List Claim = allClaims (risksFrom s (pastRisk s at) n) in
+      let ks : List ℕ = countsFrom s (pastRisk s at) n in
+      omega (
+        arith,
+        ap totalWidth (risk-slots at ks rest),
+        width-append (own (claimsAt s at)) (owns ks rest),
+        claims-end s (firstClaim at) (countAt s at),
+        first-claim at,
+        risks-end (pastRisk s at) n,
+      )
 
 -- the values that the risks' fields hold
-pub record RisksTaken (s : List ℕ) (at : ℕ) (counts claims : List ℕ) : Type 0 where
+pub record RisksTaken (s : List ℕ) (at : ℕ) (counts : List ℕ) (claims : List Claim) : Type 0 where
   pub counts-are : countsFrom s at (length counts) ≡ counts
   pub claims-are : allClaims (risksFrom s at (length counts)) ≡ claims
-  pub ends : pastRisks s at (length counts) ≡ at + totalWidth (slotsOfRisks counts claims)
+  pub ends : pastRisks s at (length counts) ≡ at + totalWidth (slotsOfRisks (editionOf s) counts claims)
 
-none-left : (claims : List ℕ) → 0 ≡ length claims → [] ≡ claims
+none-left : (claims : List Claim) → 0 ≡ length claims → [] ≡ claims
 none-left [] e = refl
 none-left (x ∷ xs) e = absurd (omega arith)
 
 -- where their fields lie risks are taken
-pub laid-risks : (s : List ℕ) (at : ℕ) (counts claims : List ℕ) → sum counts ≡ length claims
-    → Laid s at (slotsOfRisks counts claims) → RisksTaken s at counts claims
+pub laid-risks : (s : List ℕ) (at : ℕ) (counts : List ℕ) (claims : List Claim) → sum counts ≡ length claims
+    → Laid s at (slotsOfRisks (editionOf s) counts claims) → RisksTaken s at counts claims
 laid-risks s at [] claims e l = record { counts-are = refl; claims-are = none-left claims e; ends = omega arith }
 laid-risks s at (k ∷ ks) claims e l =
-    let own : List ℕ = take k claims in
-    let rest : List ℕ = drop k claims in
-    let own-length : length own ≡ k = length-take-le k claims (omega arith) in
-    let p = laid-count s at k (slotsOfClaims own ++ slotsOfRisks ks rest) l in
+    let taken : List Claim = take k claims in
+    let rest : List Claim = drop k claims in
+    let first : List Slot = own s taken in
+    let taken-length : length taken ≡ k = length-take-le k claims (omega arith) in
+    let p = laid-count s at k (first ++ owns s ks rest) l in
     let count : countAt s at ≡ k = p .0 in
-    let row : claimsAt s at ≡ own =
-    ap (claimsFrom s (firstClaim at)) (count ∙ sym own-length)
-    ∙ laid-claims s (firstClaim at) own (laid-first s (firstClaim at) (slotsOfClaims own) (slotsOfRisks ks rest) (p .1)) in
-    let place : pastRisk s at ≡ firstClaim at + totalWidth (slotsOfClaims own) =
-    sym (claims-end s (firstClaim at) (countAt s at)) ∙ ap (λ (x : List ℕ). firstClaim at + totalWidth (slotsOfClaims x)) row in
-    let next : RisksTaken s (firstClaim at + totalWidth (slotsOfClaims own)) ks rest =
-    laid-risks s (firstClaim at + totalWidth (slotsOfClaims own)) ks rest (omega (arith, length-drop k claims))
-    (laid-second s (firstClaim at) (slotsOfClaims own) (slotsOfRisks ks rest) (p .1)) in
+    let row : claimsAt s at ≡ taken =
+    ap (claimsFrom s (firstClaim at)) (count ∙ sym taken-length)
+    ∙ laid-claims s (firstClaim at) taken (laid-first s (firstClaim at) first (owns s ks rest) (p .1)) in
+    let place : pastRisk s at ≡ firstClaim at + totalWidth first =
+    sym (claims-end s (firstClaim at) (countAt s at)) ∙ ap (λ (x : List Claim). firstClaim at + totalWidth (own s x)) row in
+    let next : RisksTaken s (firstClaim at + totalWidth first) ks rest =
+    laid-risks s (firstClaim at + totalWidth first) ks rest (omega (arith, length-drop k claims))
+    (laid-second s (firstClaim at) first (owns s ks rest) (p .1)) in
     let there : RisksTaken s (pastRisk s at) ks rest = subst (λ (x : ℕ). RisksTaken s x ks rest) (sym place) next in
     record {
       counts-are = ap₂ _∷_ count (there .counts-are);
       claims-are = ap₂ _++_ row (there .claims-are) ∙ take-append-drop k claims;
-      ends = there .ends ∙ omega (arith, place, first-claim at, width-append (slotsOfClaims own) (slotsOfRisks ks rest));
+      ends = there .ends ∙ omega (arith, place, first-claim at, width-append first (owns s ks rest));
     }
 
 -- how wide they are, of counts that take no more claims than there are
-pub risks-width : (counts claims : List ℕ) → sum counts ≤ length claims
-    → totalWidth (slotsOfRisks counts claims) ≡ countWidth * length counts + claimWidth * sum counts
-risks-width [] claims h = omega arith
-risks-width (k ∷ ks) claims h =
+pub risks-width : (edition : ℕ) (counts : List ℕ) (claims : List Claim) → sum counts ≤ length claims
+    → totalWidth (slotsOfRisks edition counts claims) ≡ countWidth * length counts + claimWidth edition * sum counts
+risks-width edition [] claims h = omega arith
+risks-width edition (k ∷ ks) claims h =
     omega (
       arith,
-      width-append (slotsOfClaims (take k claims)) (slotsOfRisks ks (drop k claims)),
-      claims-width (take k claims),
-      length-take-le k claims (omega arith),
-      risks-width ks (drop k claims) (omega (arith, length-drop k claims)),
+      width-append (slotsOfClaims edition (take k claims)) (slotsOfRisks edition ks (drop k claims)),
+      claims-width edition (take k claims),
+      ap (λ (n : ℕ). claimWidth edition * n) (length-take-le k claims (omega arith)),
+      risks-width edition ks (drop k claims) (omega (arith, length-drop k claims)),
     )
 
 -- ---- counts and claims that fit their fields
 
-pub risks-fitting : (counts claims : List ℕ) → Fitting (slots countWidth counts) → claimsFit claims ≡ true
-    → Fitting (slotsOfRisks counts claims)
-risks-fitting [] claims f e = tt
-risks-fitting (k ∷ ks) claims f e = (
+pub risks-fitting : (edition : ℕ) (counts js ds : List ℕ) → Fitting (slots countWidth counts)
+    → allFit (joinedWidth edition) js ≡ true → allFit dollarsWidth ds ≡ true
+    → Fitting (slotsOfRisks edition counts (claimsOf js ds))
+risks-fitting edition [] js ds f e d = tt
+risks-fitting edition (k ∷ ks) js ds f e d = (
   f .0,
-  fitting-append (slotsOfClaims (take k claims)) (slotsOfRisks ks (drop k claims)) (claims-fitting (take k claims) (fit-take k claims e))
-      (risks-fitting ks (drop k claims) (f .1) (fit-drop k claims e)),
+  fitting-append (slotsOfClaims edition (take k (claimsOf js ds))) (slotsOfRisks edition ks (drop k (claimsOf js ds)))
+      (subst (λ (l : List Claim). Fitting (slotsOfClaims edition l)) (sym (take-claims-of k js ds))
+      (claims-fitting edition (take k js) (take k ds) (fit-take _ k js e) (fit-take _ k ds d)))
+      (subst (λ (l : List Claim). Fitting (slotsOfRisks edition ks l)) (sym (drop-claims-of k js ds))
+      (risks-fitting edition ks (drop k js) (drop k ds) (f .1) (fit-drop _ k js e) (fit-drop _ k ds d))),
 )
 
 pub counts-fit : (s : List ℕ) (at n : ℕ) → allFit countWidth (countsFrom s at n) ≡ true
@@ -219,11 +248,20 @@ unfolding countAt
 counts-fit s at zero = refl
 counts-fit s at (suc n) = and-yes (lt-ltb _ _ (field-lt s at countWidth)) (counts-fit s (pastRisk s at) n)
 
-pub claims-fit : (s : List ℕ) (at n : ℕ) → claimsFit (allClaims (risksFrom s at n)) ≡ true
-claims-fit s at zero = refl
-claims-fit s at (suc n) =
-    fit-append (claimsAt s at) (allClaims (risksFrom s (pastRisk s at) n)) (fit-taken s (firstClaim at) (countAt s at))
-    (claims-fit s (pastRisk s at) n)
+-- what fits of the claims of each risk fits of all
+parts-fit : (part : Claim → ℕ) (w : ℕ) (s : List ℕ) → ((at k : ℕ) → allFit w (map part (claimsFrom s at k)) ≡ true) → (at n : ℕ)
+    → allFit w (map part (allClaims (risksFrom s at n))) ≡ true
+parts-fit part w s fit at zero = refl
+parts-fit part w s fit at (suc n) =
+    ap (allFit w) (map-append part (claimsAt s at) (allClaims (risksFrom s (pastRisk s at) n)))
+    ∙ fit-append w (map part (claimsAt s at)) (map part (allClaims (risksFrom s (pastRisk s at) n)))
+    (fit (firstClaim at) (countAt s at)) (parts-fit part w s fit (pastRisk s at) n)
+
+pub all-dollars-fit : (s : List ℕ) (at n : ℕ) → allFit dollarsWidth (map dollars (allClaims (risksFrom s at n))) ≡ true
+all-dollars-fit s = parts-fit dollars dollarsWidth s (dollars-fit s)
+
+pub all-joined-fit : (s : List ℕ) (at n : ℕ) → allFit (joinedWidth (editionOf s)) (map joined (allClaims (risksFrom s at n))) ≡ true
+all-joined-fit s = parts-fit joined (joinedWidth (editionOf s)) s (joined-fit s)
 
 -- counts of 6 bits add to 63 a risk at most
 pub counts-most : (counts : List ℕ) → Fitting (slots countWidth counts) → sum counts ≤ mostClaims * length counts

@@ -1,8 +1,8 @@
 -- Reader and writer undo each other: 'Read of the result gives those values back, and Write of what Read gives yields the same
--- bytes.' Values that were written lie in the file and so are taken; bytes are told by their fields and zero fill, so what was
--- taken is written as it stood. Each value that a field holds fits its width, so Write refuses nothing that Read gives; and
--- what Write makes passes all that Read asks. Assumes nothing.
-use mathlib.Core.Path.{_≡_, sym, ap, _∙_, subst}
+-- bytes', and document 02, job 4: 'reading back is equal for either' edition. Values that were written lie in the file and so are
+-- taken; bytes are told by their fields and zero fill, so what was taken is written as it stood. Each value that a field holds fits
+-- its width, so Write refuses nothing that Read gives; and what Write makes passes all that Read asks. Assumes nothing.
+use mathlib.Core.Path.{_≡_, sym, ap, ap₂, _∙_, subst}
 use mathlib.Core.Bool.{true}
 use mathlib.Core.List.{List, [], _∷_}
 use Prim.Native.Nat.{ℕ, _-_, _*_, _≤_}
@@ -14,17 +14,20 @@ use Rattle.plan.specs.Field.{bit, field, fits, bytesFor}
 use Rattle.plan.specs.Header.{Header, headerOf, headerBits, riskCount, headerSlots, lossLimitField, standardPremiumField}
 use Rattle.plan.specs.Header.{expenseField, conversionField, taxField, markKindField, maximumMarkField, minimumMarkField}
 use Rattle.plan.specs.Header.{risksField}
-use Rattle.plan.specs.Risk.{allClaims, slotsOfRisks}
-use Rattle.plan.specs.File.{countsOf, risksOf, endOf, fileSlots, fileOf}
-use Rattle.plan.specs.Questions.{passed, firstNo, fileQuestions, headerFits, question13, readEnough, readQuestions}
+use Rattle.plan.specs.Claim.{Claim}
+use Rattle.plan.specs.Risk.{risksFrom, divided, slotsOfRisks}
+use Rattle.plan.specs.File.{Group, countsOf, risksOf, claimsIn, endOf, groupOf, claimsGiven, fileSlots, fileOf, fileLength}
+use Rattle.plan.specs.Accidents.{allOpen}
+use Rattle.plan.specs.Questions.{passed, firstNo, knownEdition, fileQuestions, headerFits, question13, readEnough, readQuestions}
 use Rattle.plan.specs.Questions.{writeQuestions}
 use Rattle.plan.specs.Bounds.{HeaderSound}
-use Rattle.plan.specs.Calls.{given, Group, groupOf, read, write}
+use Rattle.plan.specs.Calls.{given, read, write}
 use Rattle.plan.proofs.Fields.{Bytes, field-lt, number-zero, zero-bits}
 use Rattle.plan.proofs.Written.{width-append, length-bytesOf, bytesOf-laid, bytesOf-fill, bytesOf-unique}
-use Rattle.plan.proofs.Risks.{length-counts, counts-claims, counts-fit, claims-fit}
-use Rattle.plan.proofs.Decoded.{slotsOf, file-laid, file-end, FileTaken, laid-file}
-use Rattle.plan.proofs.Writable.{file-fitting, WriteSound, write-sound, write-passes}
+use Rattle.plan.proofs.Claims.{claims-of-parts}
+use Rattle.plan.proofs.Risks.{length-counts, divided-again, counts-fit, all-dollars-fit, all-joined-fit}
+use Rattle.plan.proofs.Decoded.{slotsOf, file-laid, file-end, FileTaken, laid-file, taken-group, own-matching}
+use Rattle.plan.proofs.Writable.{file-fitting, WriteSound, write-sound, write-passes, written-matching}
 use Rattle.plan.proofs.Tests.{and-yes}
 use Rattle.plan.proofs.Questions.{passed-both, after-gate, given-passed, answered, FileSound, file-sound, file-passes}
 
@@ -43,96 +46,113 @@ header-fits s =
       lt-ltb _ _ (field-lt s (minimumMarkField .at) (minimumMarkField .width)),
     )
 
-taken-writable : (s : List ℕ) → FileSound s → WriteSound (headerOf s) (countsOf s) (allClaims (risksOf s))
+-- the risks of a file's counts, bits and dollars are its risks
+own-risks : (s : List ℕ) → divided (countsOf s) (claimsGiven (groupOf s)) ≡ risksOf s
+own-risks s = ap (divided (countsOf s)) (claims-of-parts (claimsIn s)) ∙ divided-again s headerBits (riskCount s)
+
+taken-writable : (s : List ℕ) → FileSound s → WriteSound (groupOf s)
 taken-writable s f =
     let n = length-counts s headerBits (riskCount s) in
     record {
+      edition = f .edition-known;
       header = subst (HeaderSound (headerOf s)) (sym n) (f .header);
       writable = record {
         risks = ap (fits (risksField .width)) n ∙ lt-ltb _ _ (field-lt s (risksField .at) (risksField .width));
         counts-fit = counts-fit s headerBits (riskCount s);
-        claims-fit = claims-fit s headerBits (riskCount s);
+        claims-fit = all-dollars-fit s headerBits (riskCount s);
+        joined-fit = all-joined-fit s headerBits (riskCount s);
         header = header-fits s;
-        adds = counts-claims s headerBits (riskCount s);
+        adds = own-matching s .adds;
+        bits = own-matching s .bits;
       };
+      all-open = ap allOpen (own-risks s) ∙ f .all-open;
     }
 
 -- a file that passes 1 to 9 is the file that its values make
-pub file-is : (s : List ℕ) → Bytes s → FileSound s → s ≡ fileOf (headerOf s) (countsOf s) (allClaims (risksOf s))
+pub file-is : (s : List ℕ) → Bytes s → FileSound s → s ≡ fileOf (groupOf s)
 unfolding field
 file-is s bytes f =
     let w = file-end s in
-    bytesOf-unique s (slotsOf s) bytes (file-fitting _ _ _ (taken-writable s f .writable))
+    let t = taken-writable s f in
+    bytesOf-unique s (slotsOf s) bytes (file-fitting (groupOf s) (t .edition) (t .writable))
     (f .ends ∙ ap bytesFor (sym w)) (file-laid s f)
     (λ k lo hi. zero-bits (bit s) (endOf s) (8 * length s - endOf s) (f .fill) k (omega arith) (omega arith))
 
 -- Write of what Read gives yields the same bytes
-pub read-write : (s : List ℕ) (countsRoom claimsRoom room : ℕ) (g : Group) → Bytes s → read s countsRoom claimsRoom ≡ given g
-    → length s ≤ room → write g room ≡ given s
+pub read-write : (s : List ℕ) (countsRoom claimsRoom joinedRoom room : ℕ) (g : Group) → Bytes s
+    → read s countsRoom claimsRoom joinedRoom ≡ given g → length s ≤ room → write g room ≡ given s
 unfolding read write
-read-write s countsRoom claimsRoom room g bytes e enough =
-    let p = given-passed (firstNo (readQuestions s countsRoom claimsRoom)) (groupOf s) g e in
+read-write s countsRoom claimsRoom joinedRoom room g bytes e enough =
+    let p = given-passed (firstNo (readQuestions s countsRoom claimsRoom joinedRoom)) (groupOf s) g e in
     let f : FileSound s =
-    file-sound s (passed-both (fileQuestions s) (question13 (readEnough s countsRoom claimsRoom) ∷ []) (p .0) .0) in
+    file-sound s (passed-both (fileQuestions s) (question13 (readEnough s countsRoom claimsRoom joinedRoom) ∷ []) (p .0) .0) in
     let is = file-is s bytes f in
     subst (λ (x : Group). write x room ≡ given s) (p .1)
-    (answered (fileOf (headerOf s) (countsOf s) (allClaims (risksOf s)))
-    (write-passes (headerOf s) (countsOf s) (allClaims (risksOf s)) room (taken-writable s f) (subst (λ (x : List ℕ). length x ≤ room) is enough))
+    (answered (fileOf (groupOf s))
+    (write-passes (groupOf s) room (taken-writable s f) (subst (λ (x : List ℕ). length x ≤ room) is enough))
     ∙ ap given (sym is))
 
--- one file for one group
+-- one file for one group and edition
 pub one-file : (s t : List ℕ) → Bytes s → Bytes t → FileSound s → FileSound t → groupOf s ≡ groupOf t → s ≡ t
-one-file s t hs ht fs ft e =
-    file-is s hs fs ∙ ap (λ (g : Group). fileOf (g .header) (g .counts) (g .claims)) e ∙ sym (file-is t ht ft)
+one-file s t hs ht fs ft e = file-is s hs fs ∙ ap fileOf e ∙ sym (file-is t ht ft)
 
 -- ---- what is written can be read
 
-module _ (h : Header) (counts claims : List ℕ) (w : WriteSound h counts claims) where
+module _ (g : Group) (w : WriteSound g) where
   abbrev made : List ℕ
-  made = fileOf h counts claims
+  made = fileOf g
 
-  made-taken : FileTaken made h counts claims
+  pub made-taken : FileTaken made g
   made-taken =
-      laid-file made h counts claims (w .writable .adds)
-      (bytesOf-laid (fileSlots h counts claims) (file-fitting h counts claims (w .writable)))
+      laid-file made g (written-matching (w .writable)) (bytesOf-laid (fileSlots g) (file-fitting g (w .edition) (w .writable)))
 
-  made-group : groupOf made ≡ record { header = h; counts = counts; claims = claims }
-  made-group =
-      let t = made-taken in
-      λ i. record { header = t .header .header-is i; counts = t .counts-are i; claims = t .claims-are i }
+  pub made-group : groupOf made ≡ g
+  made-group = taken-group made-taken
+
+  -- the risks that are taken are those that were given
+  made-risks : risksOf made ≡ divided (g .counts) (claimsGiven g)
+  made-risks =
+      sym (divided-again made headerBits (riskCount made)) ∙ ap₂ divided (made-taken .counts-are) (made-taken .all-are)
 
   pub made-sound : FileSound made
   unfolding field
   made-sound =
       let t = made-taken in
-      let l = length-bytesOf (fileSlots h counts claims) in
+      let l = length-bytesOf (fileSlots g) in
       let e = t .ends in
       record {
-        long = omega (arith, l, width-append (headerSlots h (length counts)) (slotsOfRisks counts claims));
-        edition-is = t .header .edition-is;
+        long = omega (
+          arith,
+          l,
+          width-append (headerSlots (g .edition) (g .header) (length (g .counts))) (slotsOfRisks (g .edition) (g .counts) (claimsGiven g)),
+        );
+        edition-known = ap knownEdition (t .header .edition-is) ∙ w .edition;
         spare-is = t .header .spare-is;
         header = subst (HeaderSound (headerOf made)) (sym (t .header .risks-are))
-            (subst (λ (x : Header). HeaderSound x (length counts)) (sym (t .header .header-is)) (w .header));
+            (subst (λ (x : Header). HeaderSound x (length (g .counts))) (sym (t .header .header-is)) (w .header));
         ends = l ∙ ap bytesFor (sym e);
         fill = number-zero (bit made) (endOf made) (8 * length made - endOf made)
-            (λ k lo hi. bytesOf-fill (fileSlots h counts claims) k (omega arith));
+            (λ k lo hi. bytesOf-fill (fileSlots g) k (omega arith));
+        all-open = ap allOpen made-risks ∙ w .all-open;
       }
 
 -- Read of the result gives those values back
-pub write-read : (g : Group) (room countsRoom claimsRoom : ℕ) (b : List ℕ) → write g room ≡ given b
-    → length (g .counts) ≤ countsRoom → length (g .claims) ≤ claimsRoom → read b countsRoom claimsRoom ≡ given g
+pub write-read : (g : Group) (room countsRoom claimsRoom joinedRoom : ℕ) (b : List ℕ) → write g room ≡ given b
+    → length (g .counts) ≤ countsRoom → length (g .claims) ≤ claimsRoom → length (g .claims) ≤ joinedRoom
+    → read b countsRoom claimsRoom joinedRoom ≡ given g
 unfolding read write
-write-read g room countsRoom claimsRoom b e enough-counts enough-claims =
-    let h = g .header in
-    let p = given-passed (firstNo (writeQuestions h (g .counts) (g .claims) room)) (fileOf h (g .counts) (g .claims)) b e in
-    let w : WriteSound h (g .counts) (g .claims) = write-sound h (g .counts) (g .claims) room (p .0) in
-    let s : List ℕ = fileOf h (g .counts) (g .claims) in
-    let is : groupOf s ≡ g = made-group h (g .counts) (g .claims) w in
-    let n : riskCount s ≡ length (g .counts) = made-taken h (g .counts) (g .claims) w .header .risks-are in
-    let adds : sum (countsOf s) ≡ length (g .claims) =
-    ap (λ (x : Group). sum (x .counts)) is ∙ w .writable .adds in
-    let passes : firstNo (readQuestions s countsRoom claimsRoom) ≡ passed =
-    after-gate (fileQuestions s) (question13 (readEnough s countsRoom claimsRoom) ∷ []) (file-passes s (made-sound h (g .counts) (g .claims) w))
-    ∙ (simp (and-yes (le-leb (riskCount s) countsRoom (omega arith)) (le-leb (sum (countsOf s)) claimsRoom (omega arith)))) in
-    subst (λ (x : List ℕ). read x countsRoom claimsRoom ≡ given g) (p .1)
+write-read g room countsRoom claimsRoom joinedRoom b e enough-counts enough-claims enough-joined =
+    let p = given-passed (firstNo (writeQuestions g room)) (fileOf g) b e in
+    let w : WriteSound g = write-sound g room (p .0) in
+    let s : List ℕ = fileOf g in
+    let is : groupOf s ≡ g = made-group g w in
+    let n : riskCount s ≡ length (g .counts) = made-taken g w .header .risks-are in
+    let adds : sum (countsOf s) ≡ length (g .claims) = ap (λ (x : Group). sum (x .counts)) is ∙ w .writable .adds in
+    let enough : readEnough s countsRoom claimsRoom joinedRoom ≡ true =
+    and-yes (and-yes (le-leb (riskCount s) countsRoom (omega arith)) (le-leb (sum (countsOf s)) claimsRoom (omega arith)))
+    (le-leb (sum (countsOf s)) joinedRoom (omega arith)) in
+    let passes : firstNo (readQuestions s countsRoom claimsRoom joinedRoom) ≡ passed =
+    after-gate (fileQuestions s) (question13 (readEnough s countsRoom claimsRoom joinedRoom) ∷ []) (file-passes s (made-sound g w))
+    ∙ (simp enough) in
+    subst (λ (x : List ℕ). read x countsRoom claimsRoom joinedRoom ≡ given g) (p .1)
     (answered (groupOf s) passes ∙ ap given is)

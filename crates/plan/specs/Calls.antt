@@ -8,8 +8,7 @@ use lib.ListN.{length, drop}
 use Rattle.plan.specs.Arithmetic.{sum}
 use Rattle.plan.specs.Field.{slots, bytesOf}
 use Rattle.plan.specs.Header.{Header, headerOf}
-use Rattle.plan.specs.Risk.{allClaims}
-use Rattle.plan.specs.File.{fileOf, countsOf, risksOf}
+use Rattle.plan.specs.File.{Group, groupOf, fileOf}
 use Rattle.plan.specs.Losses.{Losses, lossesIn}
 use Rattle.plan.specs.Basic.{basicPremium, excessCharge}
 use Rattle.plan.specs.Premium.{billedPremiums}
@@ -106,34 +105,34 @@ table s r =
     answer (firstNo (tableQuestions s r)) (record { charge = charge (lossesIn s) r; savings = savings (lossesIn s) r })
 
 -- ---- 'Read: file, a buffer for the claim counts and one for the claims. Gives the header and fills the first n counts and as
--- many claims as they add to; entries after those keep their contents, as do bytes after the length in Write.'
+-- many claims as they add to; entries after those keep their contents, as do bytes after the length in Write.' And job 4: 'Read fills
+-- a third buffer with the bits, all 0 for edition 1.'
 
--- n is the number of counts
-pub record Group : Type 0 where
-  pub header : Header
-  pub counts : List ℕ
-  pub claims : List ℕ
+unfoldable pub read : List ℕ → ℕ → ℕ → ℕ → Answer Group
+read s countsRoom claimsRoom joinedRoom = answer (firstNo (readQuestions s countsRoom claimsRoom joinedRoom)) (groupOf s)
 
-abbrev pub groupOf : List ℕ → Group
-groupOf s = record { header = headerOf s; counts = countsOf s; claims = allClaims (risksOf s) }
+-- the three buffers after Read, which held `oldCounts`, `oldClaims` and `oldJoined`
+module _ (s oldCounts oldClaims oldJoined : List ℕ) where
+  -- Read with these buffers
+  abbrev pub readInto : Answer Group
+  readInto = read s (length oldCounts) (length oldClaims) (length oldJoined)
 
-unfoldable pub read : List ℕ → ℕ → ℕ → Answer Group
-read s countsRoom claimsRoom = answer (firstNo (readQuestions s countsRoom claimsRoom)) (groupOf s)
+  abbrev pub readCounts : List ℕ
+  readCounts = bufferAfter (λ g. g .counts) readInto oldCounts
 
--- the two buffers after Read, which held `oldCounts` and `oldClaims`
-abbrev pub readCounts : List ℕ → List ℕ → List ℕ → List ℕ
-readCounts s oldCounts oldClaims = bufferAfter (λ g. g .counts) (read s (length oldCounts) (length oldClaims)) oldCounts
+  abbrev pub readClaims : List ℕ
+  readClaims = bufferAfter (λ g. g .claims) readInto oldClaims
 
-abbrev pub readClaims : List ℕ → List ℕ → List ℕ → List ℕ
-readClaims s oldCounts oldClaims = bufferAfter (λ g. g .claims) (read s (length oldCounts) (length oldClaims)) oldClaims
+  abbrev pub readJoined : List ℕ
+  readJoined = bufferAfter (λ g. g .joined) readInto oldJoined
 
 -- ---- 'Write: header values (loss limit to minimum mark; edition and spare are written as 1 and 0), counts, claims, output.
--- Gives the length and writes the file. n is the number of counts.'
+-- Gives the length and writes the file. n is the number of counts.' And job 4: 'the writer takes the edition', and 'Write takes the
+-- bits as a list'
 
 -- the file's bytes; the length given is theirs
 unfoldable pub write : Group → ℕ → Answer (List ℕ)
-write g room =
-    answer (firstNo (writeQuestions (g .header) (g .counts) (g .claims) room)) (fileOf (g .header) (g .counts) (g .claims))
+write g room = answer (firstNo (writeQuestions g room)) (fileOf g)
 
 -- the output buffer after Write, which held `old`, and the lent length
 abbrev pub writeBuffer : Group → List ℕ → List ℕ

@@ -16,7 +16,7 @@ end x = x .at + x .width
 abbrev pub after : Extent → ℕ → Extent
 after x w = record { at = end x; width = w }
 
--- 'edition 4, which is 1'
+-- 'edition 4, which is 1'; since document 02, job 4, 1 or 2
 abbrev pub editionField : Extent
 editionField = record { at = 0; width = 4 }
 
@@ -70,7 +70,7 @@ valueOf s x = field s (x .at) (x .width)
 
 -- the header values: 'loss limit to minimum mark'
 pub record Header : Type 0 where
-  -- dollars per claim; 0 means no limit
+  -- dollars per claim in edition 1, per accident in edition 2; 0 means no limit
   pub lossLimit : ℕ
   -- P, dollars
   pub standardPremium : ℕ
@@ -100,14 +100,19 @@ headerOf s = record {
   minimumMark = valueOf s minimumMarkField;
 }
 
+-- the edition of a file
+abbrev pub editionOf : List ℕ → ℕ
+editionOf s = valueOf s editionField
+
 -- n of a file
 abbrev pub riskCount : List ℕ → ℕ
 riskCount s = valueOf s risksField
 
--- the header to be written, of given values and n: 'edition and spare are written as 1 and 0'
-abbrev pub headerSlots : Header → ℕ → List Slot
-headerSlots h n =
-    slot (editionField .width) 1
+-- the header to be written, of an edition, given values and n: 'edition and spare are written as 1 and 0', and since job 4 'the
+-- writer takes the edition'
+abbrev pub headerSlots : ℕ → Header → ℕ → List Slot
+headerSlots edition h n =
+    slot (editionField .width) edition
     ∷ slot (lossLimitField .width) (h .lossLimit)
     ∷ slot (standardPremiumField .width) (h .standardPremium)
     ∷ slot (expenseField .width) (h .expense)

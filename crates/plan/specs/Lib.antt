@@ -7,6 +7,8 @@ pub mod Header
 pub mod Claim
 pub mod Risk
 pub mod File
+-- Document 02, job 4: accidents
+pub mod Accidents
 -- From claims to premiums: steps 1 to 6, and demand 3
 pub mod Losses
 pub mod Marks

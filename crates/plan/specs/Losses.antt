@@ -1,11 +1,14 @@
 -- Step 1: 'L is a risk's sum of claims. A is its sum of the lesser of each claim and the loss limit; without a limit A = L.
--- SL and SA are their sums over the group.' All later steps speak of the header and of the list of losses only.
+-- SL and SA are their sums over the group.' Since document 02, job 4, 'The limit applies to the accident's sum'; in edition 1 each
+-- claim is its own accident, so there A is as document 01 has it. All later steps speak of the header and of the list of losses only.
 use mathlib.Core.List.{List, map}
 use Prim.Native.Nat.{ℕ, zero, suc, min}
 use lib.ListN.{take}
-use Rattle.plan.specs.Arithmetic.{sum, sumOf}
+use Rattle.plan.specs.Arithmetic.{sumOf}
 use Rattle.plan.specs.Header.{headerOf, headerBits, riskCount}
+use Rattle.plan.specs.Claim.{Claim, dollars}
 use Rattle.plan.specs.Risk.{risksFrom}
+use Rattle.plan.specs.Accidents.{accidentsOf}
 
 -- a risk's losses
 pub record Losses : Type 0 where
@@ -14,21 +17,21 @@ pub record Losses : Type 0 where
   -- A, the limited losses
   pub limited : ℕ
 
--- 'the lesser of each claim and the loss limit'; a limit of 0 is none
+-- the lesser of an accident's sum and the loss limit; a limit of 0 is none
 abbrev pub limitedTo : ℕ → ℕ → ℕ
-limitedTo zero claim = claim
-limitedTo (suc l) claim = min claim (suc l)
+limitedTo zero x = x
+limitedTo (suc l) x = min x (suc l)
 
 -- L of a risk's claims, from its first on
-abbrev pub totalOf : List ℕ → ℕ
-totalOf claims = sum claims
+abbrev pub totalOf : List Claim → ℕ
+totalOf claims = sumOf dollars claims
 
--- A of a risk's claims, from its first on
-unfoldable pub limitedOf : ℕ → List ℕ → ℕ
-limitedOf limit claims = sumOf (limitedTo limit) claims
+-- A of a risk's claims, from its first on; the first k of them have an A too
+unfoldable pub limitedOf : ℕ → List Claim → ℕ
+limitedOf limit claims = sumOf (limitedTo limit) (accidentsOf claims)
 
 -- L and A of a risk's claims
-abbrev pub lossesOf : ℕ → List ℕ → Losses
+abbrev pub lossesOf : ℕ → List Claim → Losses
 lossesOf limit claims = record { total = totalOf claims; limited = limitedOf limit claims }
 
 -- SL

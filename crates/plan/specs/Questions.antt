@@ -1,6 +1,7 @@
 -- 'Asked in this order. The first No is the result, as that number and nothing else, and no lent byte or number changes. No
--- refusal has another cause.' One definition a question; each call's list is made of their names. 18 is document 02's, job 2.
-use mathlib.Core.Bool.{Bool, true, false, _&&_}
+-- refusal has another cause.' One definition a question; each call's list is made of their names. 18 is document 02's, job 2, and 19 is
+-- job 4's.
+use mathlib.Core.Bool.{Bool, true, false, _&&_, _||_}
 use mathlib.Core.List.{List, [], _∷_, _++_}
 use Prim.Native.Nat.{ℕ, _*_}
 use lib.Dec.{leb, eqb}
@@ -9,12 +10,13 @@ use lib.Signed.{nonNeg}
 use Rattle.plan.specs.Arithmetic.{sum}
 use Rattle.plan.specs.Sizes.{mostMark, mostRatio}
 use Rattle.plan.specs.Field.{bytesFor, fits, allFit}
-use Rattle.plan.specs.Header.{Header, headerOf, riskCount, valueOf, editionField, spareField, lossLimitField}
+use Rattle.plan.specs.Header.{Header, headerOf, editionOf, riskCount, valueOf, spareField, lossLimitField}
 use Rattle.plan.specs.Header.{standardPremiumField, expenseField, conversionField, taxField, markKindField}
 use Rattle.plan.specs.Header.{maximumMarkField, minimumMarkField, risksField}
-use Rattle.plan.specs.Claim.{claimsFit}
-use Rattle.plan.specs.Risk.{countWidth}
-use Rattle.plan.specs.File.{countsOf, endOf, fillOf, fileLength}
+use Rattle.plan.specs.Claim.{Claim, joinedWidth, dollarsWidth}
+use Rattle.plan.specs.Risk.{countWidth, divided}
+use Rattle.plan.specs.File.{Group, countsOf, risksOf, endOf, fillOf, claimsGiven, fileLength}
+use Rattle.plan.specs.Accidents.{allOpen}
 use Rattle.plan.specs.Losses.{Losses, SA, lossesIn}
 use Rattle.plan.specs.Marks.{LG, LH}
 use Rattle.plan.specs.Basic.{basicPremium}
@@ -45,9 +47,17 @@ orElse (failed k) v = failed k
 abbrev pub question1 : List ℕ → Question
 question1 s = ask 1 (leb 16 (length s))
 
--- 'Is the edition 1 and the spare bit 0?'
+-- 'Edition 1 is still read', and 'Edition 2 passes question 2.'
+abbrev pub knownEdition : ℕ → Bool
+knownEdition edition = eqb edition 1 || eqb edition 2
+
+-- 'Is the edition 1 and the spare bit 0?', with edition 2 since job 4
 abbrev pub question2 : List ℕ → Question
-question2 s = ask 2 (eqb (valueOf s editionField) 1 && eqb (valueOf s spareField) 0)
+question2 s = ask 2 (knownEdition (editionOf s) && eqb (valueOf s spareField) 0)
+
+-- of what Write is given: 'asks question 2 of the edition first'; the spare bit is written as 0
+abbrev pub editionQuestion : ℕ → Question
+editionQuestion edition = ask 2 (knownEdition edition)
 
 -- ---- of the header values and n
 
@@ -85,6 +95,12 @@ question8 s = ask 8 (eqb (length s) (bytesFor (endOf s)))
 abbrev pub question9 : List ℕ → Question
 question9 s = ask 9 (eqb (fillOf s) 0)
 
+-- ---- of the claims of each risk
+
+-- job 4: '19 a risk's first claim has the bit set'
+abbrev pub question19 : List (List Claim) → Question
+question19 rs = ask 19 (allOpen rs)
+
 -- ---- of the header and the losses
 
 -- 'Is SA at least 1?'
@@ -121,26 +137,29 @@ headerFits h =
     && fits (maximumMarkField .width) (h .maximumMark)
     && fits (minimumMarkField .width) (h .minimumMark)
 
--- 'Do n, counts, claims and header values fit their widths, and do the counts add to the number of claims?'
-abbrev pub question15 : Header → List ℕ → List ℕ → Question
-question15 h counts claims =
+-- 'Do n, counts, claims and header values fit their widths, and do the counts add to the number of claims?' And job 4: 'a list not as
+-- long as the claims, an entry above 1, or a 1 given with edition 1 is a No to 15', where the bit's field has no bits
+abbrev pub question15 : Group → Question
+question15 g =
     ask 15
-    (fits (risksField .width) (length counts)
-    && allFit countWidth counts
-    && claimsFit claims
-    && headerFits h
-    && eqb (sum counts) (length claims))
+    (fits (risksField .width) (length (g .counts))
+    && allFit countWidth (g .counts)
+    && allFit dollarsWidth (g .claims)
+    && allFit (joinedWidth (g .edition)) (g .joined)
+    && headerFits (g .header)
+    && eqb (sum (g .counts)) (length (g .claims))
+    && eqb (length (g .joined)) (length (g .claims)))
 
--- ---- the gates: lists that calls have in common. A range, as 1 to 9, has 18 in its place: 'Errors: 18 the minimum mark exceeds the
--- maximum mark, after 6 and before 7, in Rate, Read, Table and Write'
+-- ---- the gates: lists that calls have in common. A range, as 1 to 9, has 18 in its place, 'after 6 and before 7', and where it goes
+-- up to 9 or beyond 19, 'after 9 in Rate, Read and Table'
 
 -- 3 to 7
 abbrev pub headerQuestions : Header → ℕ → List Question
 headerQuestions h n = question3 h ∷ question4 h ∷ question5 h ∷ question6 h ∷ question18 h ∷ question7 n ∷ []
 
--- 8 and 9
+-- 8, 9 and 19
 abbrev pub endQuestions : List ℕ → List Question
-endQuestions s = question8 s ∷ question9 s ∷ []
+endQuestions s = question8 s ∷ question9 s ∷ question19 (risksOf s) ∷ []
 
 -- 1 to 9
 abbrev pub fileQuestions : List ℕ → List Question
@@ -172,22 +191,26 @@ rateQuestions s room = ratingQuestions s ++ question13 (rateEnough s room) ∷ [
 abbrev pub tableQuestions : List ℕ → ℕ → List Question
 tableQuestions s r = lossQuestions s ++ question14 r ∷ []
 
--- for Read, n counts and as many claims as they add to are enough
-abbrev pub readEnough : List ℕ → ℕ → ℕ → Bool
-readEnough s countsRoom claimsRoom = leb (riskCount s) countsRoom && leb (sum (countsOf s)) claimsRoom
+-- for Read, n counts, as many claims as they add to, and as many bits, in edition 1 too, are enough
+abbrev pub readEnough : List ℕ → ℕ → ℕ → ℕ → Bool
+readEnough s countsRoom claimsRoom joinedRoom =
+    leb (riskCount s) countsRoom && leb (sum (countsOf s)) claimsRoom && leb (sum (countsOf s)) joinedRoom
 
 -- 'Read asks 1 to 9, then 13.'
-abbrev pub readQuestions : List ℕ → ℕ → ℕ → List Question
-readQuestions s countsRoom claimsRoom = fileQuestions s ++ question13 (readEnough s countsRoom claimsRoom) ∷ []
+abbrev pub readQuestions : List ℕ → ℕ → ℕ → ℕ → List Question
+readQuestions s countsRoom claimsRoom joinedRoom =
+    fileQuestions s ++ question13 (readEnough s countsRoom claimsRoom joinedRoom) ∷ []
 
 -- for Write, the file's length is enough
-abbrev pub writeEnough : Header → List ℕ → List ℕ → ℕ → Bool
-writeEnough h counts claims room = leb (fileLength h counts claims) room
+abbrev pub writeEnough : Group → ℕ → Bool
+writeEnough g room = leb (fileLength g) room
 
--- 'Write asks 3 to 7, then 15, then 13.' 'n is the number of counts.'
-abbrev pub writeQuestions : Header → List ℕ → List ℕ → ℕ → List Question
-writeQuestions h counts claims room =
-    headerQuestions h (length counts)
-    ++ question15 h counts claims
-    ∷ question13 (writeEnough h counts claims room)
-    ∷ []
+-- of given values: 15, then '19 .. after 15 and before 13 in Write'
+abbrev pub valueQuestions : Group → List Question
+valueQuestions g = question15 g ∷ question19 (divided (g .counts) (claimsGiven g)) ∷ []
+
+-- 'Write asks 3 to 7, then 15, then 13.' 'n is the number of counts.' And job 4: 'asks question 2 of the edition first'
+abbrev pub writeQuestions : Group → ℕ → List Question
+writeQuestions g room =
+    editionQuestion (g .edition)
+    ∷ (headerQuestions (g .header) (length (g .counts)) ++ (valueQuestions g ++ question13 (writeEnough g room) ∷ []))

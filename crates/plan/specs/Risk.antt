@@ -3,7 +3,7 @@ use mathlib.Core.List.{List, [], _∷_, _++_}
 use Prim.Native.Nat.{ℕ, zero, suc, _+_}
 use lib.ListN.{take, drop}
 use Rattle.plan.specs.Field.{field, Slot, slot}
-use Rattle.plan.specs.Claim.{claimsFrom, pastClaims, slotsOfClaims}
+use Rattle.plan.specs.Claim.{Claim, claimsFrom, pastClaims, slotsOfClaims}
 
 -- 'number of claims 6'
 abbrev pub countWidth : ℕ
@@ -20,7 +20,7 @@ unfoldable pub firstClaim : ℕ → ℕ
 firstClaim at = at + countWidth
 
 -- 'then that many claims'
-abbrev pub claimsAt : List ℕ → ℕ → List ℕ
+abbrev pub claimsAt : List ℕ → ℕ → List Claim
 claimsAt s at = claimsFrom s (firstClaim at) (countAt s at)
 
 -- where the risk ends, and the next one begins
@@ -33,7 +33,7 @@ countsFrom s at zero = []
 countsFrom s at (suc n) = countAt s at ∷ countsFrom s (pastRisk s at) n
 
 -- the claims, a list for each risk
-abbrev pub risksFrom : List ℕ → ℕ → ℕ → List (List ℕ)
+abbrev pub risksFrom : List ℕ → ℕ → ℕ → List (List Claim)
 risksFrom s at zero = []
 risksFrom s at (suc n) = claimsAt s at ∷ risksFrom s (pastRisk s at) n
 
@@ -43,13 +43,19 @@ pastRisks s at zero = at
 pastRisks s at (suc n) = pastRisks s (pastRisk s at) n
 
 -- the claims of risks, one risk after another
-abbrev pub allClaims : List (List ℕ) → List ℕ
+abbrev pub allClaims : List (List Claim) → List Claim
 allClaims [] = []
 allClaims (claims ∷ rs) = claims ++ allClaims rs
 
 -- ---- written
 
--- for each risk its count and then that many of the claims
-abbrev pub slotsOfRisks : List ℕ → List ℕ → List Slot
-slotsOfRisks [] claims = []
-slotsOfRisks (k ∷ ks) claims = slot countWidth k ∷ (slotsOfClaims (take k claims) ++ slotsOfRisks ks (drop k claims))
+-- for each risk as many of the claims as its count says
+abbrev pub divided : List ℕ → List Claim → List (List Claim)
+divided [] claims = []
+divided (k ∷ ks) claims = take k claims ∷ divided ks (drop k claims)
+
+-- for each risk its count and then that many of the claims, as fields of an edition
+abbrev pub slotsOfRisks : ℕ → List ℕ → List Claim → List Slot
+slotsOfRisks edition [] claims = []
+slotsOfRisks edition (k ∷ ks) claims =
+    slot countWidth k ∷ (slotsOfClaims edition (take k claims) ++ slotsOfRisks edition ks (drop k claims))

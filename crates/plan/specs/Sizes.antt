@@ -37,7 +37,7 @@ largestClaim = 1048575
 abbrev pub largestExpense : ℕ
 largestExpense = 1048575
 
--- L of a risk: 63 of the largest claims
+-- L of a risk: 63 of the largest claims. They may be one accident, so an accident's sum is at most that too
 abbrev pub mostRiskLosses : ℕ
 mostRiskLosses = 66060225
 
@@ -45,17 +45,17 @@ mostRiskLosses = 66060225
 abbrev pub mostGroupLosses : ℕ
 mostGroupLosses = 16845357375
 
--- the most bits of a risk: a count and 63 claims
+-- the most bits of a risk: a count and 63 claims of 21 bits
 abbrev pub mostRiskBits : ℕ
-mostRiskBits = 1266
+mostRiskBits = 1329
 
 -- where the last field of the largest file ends
 abbrev pub mostFileBits : ℕ
-mostFileBits = 322958
+mostFileBits = 339023
 
--- 'The largest file has 40,370 bytes.'
+-- job 4: 'The largest file becomes 42,378 bytes.'
 abbrev pub largestFile : ℕ
-largestFile = 40370
+largestFile = 42378
 
 -- LG, LH and K: six times the largest mean loss
 abbrev pub mostDollars : ℕ
