@@ -4,19 +4,20 @@
 use mathlib.Core.Path.{_≡_, refl, sym, ap, ap₂, _∙_, subst}
 use mathlib.Core.Bool.{Bool, true, false, cond}
 use mathlib.Core.List.{List, [], _∷_, _++_, map}
-use Prim.Native.Nat.{ℕ, zero, suc, _+_, _*_, _≤_, _<_}
+use Prim.Native.Nat.{ℕ, zero, suc, _+_, _*_, _/_, _%_, _^_, _≤_, _<_}
 use native.Mathlib.Nat.{zero-add, mul-le-mul-right}
 use native.Mathlib.Omega.{arith}
 use borrow.Author.Tests.{ltb-true, lt-ltb}
 use lib.Dec.{eqb}
-use lib.ListN.{length, getD, take, drop, length-map}
+use lib.ListN.{length, getD, take, drop}
+use lib.Pow.{high, low}
 use Rattle.plan.specs.Sizes.{largestClaim}
 use Rattle.plan.specs.Field.{field, Slot, totalWidth, Laid, Fitting, fits, allFit}
 use Rattle.plan.specs.Header.{editionOf}
 use Rattle.plan.specs.Claim.{Claim, claim, joined, dollars, joinedWidth, dollarsWidth, claimWidth, claimAt, pastClaim, claimsFrom}
 use Rattle.plan.specs.Claim.{pastClaims, slotsOfClaim, slotsOfClaims, claimsOf}
 use Rattle.plan.proofs.Tests.{both, and-yes}
-use Rattle.plan.proofs.Fields.{field-lt, field-none}
+use Rattle.plan.proofs.Fields.{field-lt, field-none, field-split}
 use Rattle.plan.proofs.Written.{width-append, laid-append, laid-first, laid-second, fitting-append}
 
 -- ---- widths
@@ -53,6 +54,21 @@ dollars-at s at = refl
 
 pub dollars-le : (s : List ℕ) (at : ℕ) → dollars (claimAt s at) ≤ largestClaim
 dollars-le s at = omega (arith, dollars-at s at, field-lt s (at + joinedWidth (editionOf s)) dollarsWidth)
+
+-- both fields taken as one
+pub joined-of-both : (s : List ℕ) (at : ℕ) → field s at (claimWidth (editionOf s)) / 2 ^ dollarsWidth ≡ joined (claimAt s at)
+unfolding claimAt claimWidth
+joined-of-both s at =
+    let bit = joinedWidth (editionOf s) in
+    ap (λ (x : ℕ). x / 2 ^ dollarsWidth) (field-split s at bit dollarsWidth)
+    ∙ high (field s at bit) dollarsWidth (field-lt s (at + bit) dollarsWidth)
+
+pub dollars-of-both : (s : List ℕ) (at : ℕ) → field s at (claimWidth (editionOf s)) % 2 ^ dollarsWidth ≡ dollars (claimAt s at)
+unfolding claimAt claimWidth
+dollars-of-both s at =
+    let bit = joinedWidth (editionOf s) in
+    ap (λ (x : ℕ). x % 2 ^ dollarsWidth) (field-split s at bit dollarsWidth)
+    ∙ low (field s at bit) dollarsWidth (field-lt s (at + bit) dollarsWidth)
 
 -- a bit's field of no bits is 0
 pub not-joined : (s : List ℕ) (at : ℕ) → joinedWidth (editionOf s) ≡ 0 → joined (claimAt s at) ≡ 0

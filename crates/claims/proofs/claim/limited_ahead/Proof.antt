@@ -13,8 +13,8 @@ cast-if1 c = search needs
 shl-if1 : tie.Need-shl-if1
 shl-if1 c = search needs
 
-claim-ahead-requires : tie.Need-claim-ahead-requires
-claim-ahead-requires c κs = search needs
+dollars-ahead-requires : tie.Need-dollars-ahead-requires
+dollars-ahead-requires c κs = search needs
 
 returns : tie.Need-returns
 returns c = omega arith
@@ -23,4 +23,4 @@ returns-2 : tie.Need-returns-2
 returns-2 c = omega arith
 
 pub limited-ahead-spec : {M : Type 1} → statement M
-limited-ahead-spec = tie.close (tie.spec sub-if1 cast-if1 shl-if1 claim-ahead-requires returns returns-2)
+limited-ahead-spec = tie.close (tie.spec sub-if1 cast-if1 shl-if1 dollars-ahead-requires returns returns-2)
