@@ -1,9 +1,9 @@
 -- Taking a claim: what it asks for, and what it gives.
 use mathlib.Core.Path.{_≡_}
 use mathlib.Core.List.{List}
-use Prim.Native.Nat.{ℕ, _+_, _-_, _*_, _/_, _^_, _≤_}
+use Prim.Native.Nat.{ℕ, _+_, _-_, _*_, _/_, _%_, _^_, _≤_}
 use Rattle.plan.specs.Sizes.{mostClaims, mostFileBits}
-use Rattle.plan.specs.Claim.{joined, dollars, dollarsWidth, claimAt, pastClaim}
+use Rattle.plan.specs.Claim.{Claim, claim, joined, dollars, dollarsWidth, claimAt, pastClaim}
 use Rattle.claims.specs.declared.claim.TakenClaim.{TakenClaim}
 
 -- a run of `count` claims that begins where one of a file can
@@ -22,6 +22,13 @@ pub record ClaimTaken (s : List ℕ) (at : ℕ) (r : TakenClaim) : Type 0 where
   pub is : r .dollars ≡ dollars (claimAt s at)
   pub next : r .next .at ≡ pastClaim s at
 
--- the dollars on the front of a word of 64 bits
+-- the bit on the front of a word of 64 bits, and the dollars
+abbrev pub frontJoined : ℕ → ℕ
+frontJoined w = w / 2 ^ 63
+
 abbrev pub frontDollars : ℕ → ℕ
 frontDollars w = w / 2 ^ (64 - dollarsWidth)
+
+-- a claim with its bit on the front of a word: the bit, and the dollars behind it
+abbrev pub frontClaim : ℕ → Claim
+frontClaim w = claim (frontJoined w) (frontDollars ((w * 2 ^ 1) % 2 ^ 64))

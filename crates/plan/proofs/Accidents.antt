@@ -2,12 +2,13 @@
 -- an accident, a bit 1 adds to the last. So of any claims the sum of the last accident and what the limit leaves of those before it
 -- are enough to go on with. The accidents add to the claims' dollars. Assumes nothing.
 use mathlib.Core.Path.{_≡_, refl, sym, ap, _∙_}
+use mathlib.Core.Bool.{Bool, _&&_, and-true, and-assoc}
 use mathlib.Core.List.{List, [], _∷_, _++_}
 use Prim.Native.Nat.{ℕ, zero, suc, _+_, _≤_}
 use native.Mathlib.Omega.{arith}
 use Rattle.plan.specs.Arithmetic.{sum, sumOf}
 use Rattle.plan.specs.Claim.{Claim, claim, joined, dollars}
-use Rattle.plan.specs.Accidents.{accidentsFrom, accidentsOf}
+use Rattle.plan.specs.Accidents.{accidentsFrom, accidentsOf, opens, allOpen}
 
 -- ---- the last accident, and those before it
 
@@ -104,3 +105,9 @@ sum-accidents (claim j d ∷ cs) = sum-from d cs
 -- so the last is no more than all
 pub last-le : (cs : List Claim) → lastOf cs ≤ sumOf dollars cs
 last-le cs = omega (arith, sum-accidents cs, all-accidents (λ x. x) refl cs)
+
+-- ---- first claims that open an accident
+
+pub all-open-more : (rs : List (List Claim)) (last : List Claim) → allOpen (rs ++ last ∷ []) ≡ (allOpen rs && opens last)
+all-open-more [] last = and-true (opens last)
+all-open-more (r ∷ rs) last = ap (λ (b : Bool). opens r && b) (all-open-more rs last) ∙ sym (and-assoc (opens r) (allOpen rs) (opens last))

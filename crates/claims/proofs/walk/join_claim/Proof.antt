@@ -1,0 +1,72 @@
+-- By the claim's bit the last accident ends, or goes on and nothing ends. Assumes nothing.
+use mathlib.Core.Path.{_≡_, refl, ap, _∙_}
+use Prim.Native.Nat.{ℕ, zero, suc, _+_, _-_, _≤_, min}
+use native.Mathlib.Omega.{arith}
+use borrow.Author.Needs.{needs}
+use Rattle.claims.specs.Walks.{StartsWith}
+use Rattle.claims.specs.declared.walk.AccidentSums.{AccidentSums}
+use Rattle.claims.proofs.walk.join_claim.Statement.{statement}
+use Rattle.claims.proofs.walk.join_claim.Tie as tie
+
+-- either way the last accident begins where it did or later
+later : {r : AccidentSums} {bit start : ℕ} → StartsWith r bit start → r .start ≤ r .total → r .start ≤ start
+later {r} {bit} {start} x h = by-bit bit refl
+  where
+    by-bit : (j : ℕ) → bit ≡ j → r .start ≤ start
+    by-bit zero z = omega (arith, x .opened z, h)
+    by-bit (suc j) z = omega (arith, x .joined (omega (arith, z)))
+
+begun : (c : tie.After-start-with) → c .before .before .args .sums .start ≤ c .start-with .result
+begun c = later (c .start-with .ensures) (c .before .before .pre .begun)
+
+joined-ahead-requires : tie.Need-joined-ahead-requires
+joined-ahead-requires c κs = search needs
+
+start-with-requires : tie.Need-start-with-requires
+start-with-requires c κs = search needs
+
+sub-ended : tie.Need-sub-ended
+sub-ended c = begun (c .before)
+
+lesser-requires : tie.Need-lesser-requires
+lesser-requires c κs = search needs
+
+add-limited : tie.Need-add-limited
+add-limited c = search needs
+
+dollars-ahead-requires : tie.Need-dollars-ahead-requires
+dollars-ahead-requires c κs = search needs
+
+add-total : tie.Need-add-total
+add-total c = search needs
+
+returns : tie.Need-returns
+returns c =
+    let d = c .before in
+    let l = d .before .before in
+    let s = l .before .before in
+    let e = s .before .before in
+    let j = s .before .joined-ahead .ensures in
+    let x = s .start-with .ensures in
+    record {
+      total = ap (λ (y : ℕ). e .args .sums .total + y) (d .dollars-ahead .ensures);
+      start-opened = λ z. x .opened (j ∙ z);
+      limited-opened = λ z.
+          ap (λ (y : ℕ). e .args .sums .limited + y)
+          (l .lesser .ensures ∙ ap (λ (y : ℕ). min (y - e .args .sums .start) (e .args .most)) (x .opened (j ∙ z)));
+      start-joined = λ o. x .joined (omega (arith, j, o));
+      limited-joined = λ o. omega (arith, l .lesser .ensures, x .joined (omega (arith, j, o)));
+    }
+
+pub join-claim-spec : {M : Type 1} → statement M
+join-claim-spec =
+    tie.close
+    (tie.spec
+    joined-ahead-requires
+    start-with-requires
+    sub-ended
+    lesser-requires
+    add-limited
+    dollars-ahead-requires
+    add-total
+    returns)

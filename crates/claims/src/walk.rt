@@ -1,0 +1,386 @@
+// The walk over a file's claims: step 1's losses of a risk and of the group, whether every risk's first claim opens an accident, and
+// where the last field ends; and the latter two by the counts and the first claims' bits alone. Either is taken whatever the file's
+// length, since bits past the end are 0, so it is a matter of the bytes alone.
+ghost use mathlib.Core.Path.{_≡_};
+ghost use Prim.Native.Nat.{_+_, _≤_, min};
+ghost use Rattle.plan.specs.Accidents.{opens};
+ghost use Rattle.plan.specs.Claim.{joinedWidth, claimsFrom};
+ghost use Rattle.plan.specs.Header.{editionOf, headerBits};
+ghost use Rattle.plan.specs.Losses.{limitedTo};
+ghost use Rattle.plan.specs.Risk.{countWidth};
+ghost use Rattle.plan.specs.Sizes.{mostRisks, mostFileBits};
+ghost use Rattle.claims.specs.Claim.{RunReach, frontDollars, frontClaim};
+ghost use Rattle.claims.specs.Walks.{ClaimRoom, ClaimAdded, AccidentRoom, StartsWith, AccidentAdded, RunEnded, CountIs};
+ghost use Rattle.claims.specs.Walks.{ClaimsAre, RiskIs, NextRisk, RiskPassed, WalkIs, CountedIs};
+use crate::claim::DOLLARS_WIDTH;
+use crate::claim::JOINING_EDITION;
+use crate::claim::LARGEST_CLAIM;
+use crate::claim::MOST_CLAIM_WIDTH;
+use crate::claim::dollars_ahead;
+use crate::claim::joined_ahead;
+use crate::claim::joined_width;
+use crate::claim::limited_ahead;
+use crate::claim::past_claims;
+use crate::claim::reach_of;
+use bits::BitPlace;
+use bits::Taken;
+use group::GroupLosses;
+use group::MOST_RISKS;
+
+// Bits of a risk's number of claims.
+pub const COUNT_WIDTH: u32 = 6;
+
+// Bits of two claims, in edition 1 and in edition 2.
+const SINGLE_PAIR_WIDTH: u32 = 40;
+
+const JOINED_PAIR_WIDTH: u32 = 42;
+
+// The largest sum of a risk's claims, and so of an accident.
+const MOST_RISK_LOSSES: u32 = 66060225;
+
+// The sums of some claims of a risk, each an accident of its own: L and A of them.
+struct ClaimSums {
+    pub total: u32,
+    pub limited: u32,
+}
+
+// The sums of some claims of a risk, of which the last accident may go on: L of them, L of those before the last accident, and what
+// the limit leaves of the accidents before it.
+struct AccidentSums {
+    pub total: u32,
+    pub start: u32,
+    pub limited: u32,
+}
+
+// A run of claims as the file has it: L and A, and the place after it.
+pub struct ClaimRun {
+    pub total: u32,
+    pub limited: u32,
+    pub next: BitPlace,
+}
+
+// A risk as the file has it: the number of its claims, whether its first claim opens an accident, L and A, and the place after it.
+pub struct Risk {
+    pub count: u32,
+    pub opened: bool,
+    pub total: u32,
+    pub limited: u32,
+    pub next: BitPlace,
+}
+
+// The running sums over the risks passed so far: how many they are, how many claims they have, whether the first claim of each opens
+// an accident, SL and SA so far, and the place of the next risk.
+pub struct SumsSoFar {
+    pub risks: u32,
+    pub claims: u32,
+    pub opened: bool,
+    pub total: u64,
+    pub limited: u64,
+    pub next: BitPlace,
+}
+
+// A risk passed: its L and A, and the running sums with it.
+pub struct PassedRisk {
+    pub total: u32,
+    pub limited: u32,
+    pub sums: SumsSoFar,
+}
+
+// What the counts of risks tell, and the bits of their first claims: the place where the last field ends, how many claims there are,
+// and whether each risk's first claim opens an accident.
+pub struct Counted {
+    pub end: BitPlace,
+    pub claims: u32,
+    pub opened: bool,
+}
+
+// What the walk gives: the same, and the losses.
+pub struct Walked {
+    pub end: BitPlace,
+    pub claims: u32,
+    pub opened: bool,
+    pub losses: GroupLosses,
+}
+
+// The lesser of an accident's sum and the loss limit; a limit of 0 is none.
+fn limited_to(limit: u32, sum: u32) -> u32
+    ensures { λ r. ⌜ r ≡ limitedTo limit sum ⌝ }
+{
+    if limit == 0 {
+        return sum;
+    }
+    lesser(sum, limit)
+}
+
+// The lesser of two numbers.
+fn lesser(x: u32, y: u32) -> u32
+    ensures { λ r. ⌜ r ≡ min x y ⌝ }
+{
+    if x < y { x } else { y }
+}
+
+// The number of claims of the risk that begins at a place, and the place of its first claim.
+pub fn count_at(file: &[u8], place: BitPlace) -> Taken
+    requires { ⌜ place .at + countWidth ≤ mostFileBits ⌝ }
+    ensures { λ r. ⌜ CountIs (now (file .entry)) (place .at) r ⌝ }
+{
+    place.take(file, COUNT_WIDTH)
+}
+
+// Whether the first of the claims from a place on, as many as `count`, opens an accident: its bit is 0, or there is no claim.
+fn opens_at(file: &[u8], place: BitPlace, count: u32, edition: u32) -> bool
+    requires { ⌜ RunReach (place .at) count × (edition ≡ editionOf (now file)) ⌝ }
+    ensures { λ r. ⌜ r ≡ opens (claimsFrom (now (file .entry)) (place .at) count) ⌝ }
+{
+    if count == 0 {
+        return true;
+    }
+    let bit = place.take(file, joined_width(edition));
+    bit.value == 0
+}
+
+// ---- edition 1: each claim is its own accident
+
+// The sums with one claim more, the one on the front of a word; `most` is what the limit leaves of the largest claim.
+fn add_claim(sums: ClaimSums, word: u64, most: u32) -> ClaimSums
+    requires { ⌜ ClaimRoom sums most ⌝ }
+    ensures { λ r. ⌜ ClaimAdded sums (frontDollars word) most r ⌝ }
+{
+    let total = sums.total + dollars_ahead(word);
+    let limited = sums.limited + limited_ahead(word, most);
+    ClaimSums { total, limited }
+}
+
+// The claims without bits, as many as `count`, from a place on. Two claims are taken from one word; an odd one is the last.
+fn single_claims(file: &[u8], place: BitPlace, count: u32, limit: u32) -> ClaimRun
+    requires { ⌜ RunReach (place .at) count × (joinedWidth (editionOf (now file)) ≡ 0) ⌝ }
+    ensures { λ r. ⌜ ClaimsAre (now (file .entry)) (place .at) count limit r ⌝ }
+{
+    let reach = reach_of(place, count);
+    let most = limited_to(limit, LARGEST_CLAIM);
+    let pairs = count / 2;
+    let mut sums = ClaimSums {
+        total: 0,
+        limited: 0,
+    };
+    let mut next = place;
+    let mut i: u32 = 0;
+    while i < pairs {
+        let pair = next.take_front(file, SINGLE_PAIR_WIDTH, reach);
+        sums = add_claim(sums, pair.bits, most);
+        sums = add_claim(sums, pair.bits << DOLLARS_WIDTH, most);
+        next = pair.next;
+        i += 1;
+    }
+    if count % 2 == 1 {
+        let last = next.take_front(file, DOLLARS_WIDTH, reach);
+        sums = add_claim(sums, last.bits, most);
+        next = last.next;
+    }
+    ClaimRun {
+        total: sums.total,
+        limited: sums.limited,
+        next,
+    }
+}
+
+// ---- edition 2: a claim whose bit is 1 adds to the accident before it
+
+// The sum at which the last accident begins, with one claim more, by its bit: one that opens an accident begins it behind all others.
+fn start_with(sums: AccidentSums, joined: u32) -> u32
+    ensures { λ r. ⌜ StartsWith sums joined r ⌝ }
+{
+    if joined == 0 { sums.total } else { sums.start }
+}
+
+// The sums with one claim more, the one on the front of a word; `most` is what the limit leaves of the largest accident. Where the
+// claim opens an accident, all that came since the last one began is that accident's sum; where it does not, nothing has ended.
+fn join_claim(sums: AccidentSums, word: u64, most: u32) -> AccidentSums
+    requires { ⌜ AccidentRoom sums most ⌝ }
+    ensures { λ r. ⌜ AccidentAdded sums (frontClaim word) most r ⌝ }
+{
+    let start = start_with(sums, joined_ahead(word));
+    let ended = start - sums.start;
+    let limited = sums.limited + lesser(ended, most);
+    let total = sums.total + dollars_ahead(word << 1);
+    AccidentSums {
+        total,
+        start,
+        limited,
+    }
+}
+
+// All claims of a risk by their sums: the last accident has ended too.
+fn run_ended(sums: AccidentSums, most: u32, next: BitPlace) -> ClaimRun
+    requires { ⌜ AccidentRoom sums most ⌝ }
+    ensures { λ r. ⌜ RunEnded sums most (next .at) r ⌝ }
+{
+    let total = sums.total;
+    let ended = total - sums.start;
+    let limited = sums.limited + lesser(ended, most);
+    ClaimRun {
+        total,
+        limited,
+        next,
+    }
+}
+
+// The claims with bits, as many as `count`, from a place on. Two claims are taken from one word; an odd one is the last.
+fn joined_claims(file: &[u8], place: BitPlace, count: u32, limit: u32) -> ClaimRun
+    requires { ⌜ RunReach (place .at) count × (joinedWidth (editionOf (now file)) ≡ 1) ⌝ }
+    ensures { λ r. ⌜ ClaimsAre (now (file .entry)) (place .at) count limit r ⌝ }
+{
+    let reach = reach_of(place, count);
+    let most = limited_to(limit, MOST_RISK_LOSSES);
+    let pairs = count / 2;
+    let mut sums = AccidentSums {
+        total: 0,
+        start: 0,
+        limited: 0,
+    };
+    let mut next = place;
+    let mut i: u32 = 0;
+    while i < pairs {
+        let pair = next.take_front(file, JOINED_PAIR_WIDTH, reach);
+        sums = join_claim(sums, pair.bits, most);
+        sums = join_claim(sums, pair.bits << MOST_CLAIM_WIDTH, most);
+        next = pair.next;
+        i += 1;
+    }
+    if count % 2 == 1 {
+        let last = next.take_front(file, MOST_CLAIM_WIDTH, reach);
+        sums = join_claim(sums, last.bits, most);
+        return run_ended(sums, most, last.next);
+    }
+    run_ended(sums, most, next)
+}
+
+// ---- either
+
+// The claims, as many as `count`, from a place on, by the loop of their edition.
+pub fn claims_at(
+    file: &[u8],
+    place: BitPlace,
+    count: u32,
+    edition: u32,
+    limit: u32,
+) -> ClaimRun
+    requires { ⌜ RunReach (place .at) count × (edition ≡ editionOf (now file)) ⌝ }
+    ensures { λ r. ⌜ ClaimsAre (now (file .entry)) (place .at) count limit r ⌝ }
+{
+    if edition == JOINING_EDITION {
+        joined_claims(file, place, count, limit)
+    } else {
+        single_claims(file, place, count, limit)
+    }
+}
+
+// The risk that begins at a place.
+pub fn risk_at(file: &[u8], place: BitPlace, edition: u32, limit: u32) -> Risk
+    requires { ⌜ (place .at + countWidth ≤ mostFileBits) × (edition ≡ editionOf (now file)) ⌝ }
+    ensures { λ r. ⌜ RiskIs (now (file .entry)) (place .at) limit r ⌝ }
+{
+    let taken = count_at(file, place);
+    let first = taken.next;
+    let count = taken.value;
+    let opened = opens_at(file, first, count, edition);
+    let run = claims_at(file, first, count, edition, limit);
+    let next = run.next;
+    Risk {
+        count,
+        opened,
+        total: run.total,
+        limited: run.limited,
+        next,
+    }
+}
+
+// One risk more, the one that begins where the risks passed so far end: of the sums over the first k risks and the place of risk
+// k + 1 it makes the sums over the first k + 1 and the next place. No risk before it is gone over again.
+pub fn pass_risk(file: &[u8], sums: SumsSoFar, edition: u32, limit: u32) -> PassedRisk
+    requires { ⌜ NextRisk (now file) limit sums × (edition ≡ editionOf (now file)) ⌝ }
+    ensures { λ r. ⌜ RiskPassed (now (file .entry)) limit (sums .risks) r ⌝ }
+{
+    let place = sums.next;
+    let risk = risk_at(file, place, edition, limit);
+    let count = risk.count;
+    let risks = sums.risks + 1;
+    let claims = sums.claims + count;
+    let opened = sums.opened & risk.opened;
+    let total = sums.total + risk.total as u64;
+    let limited = sums.limited + risk.limited as u64;
+    let next = risk.next;
+    PassedRisk {
+        total: risk.total,
+        limited: risk.limited,
+        sums: SumsSoFar {
+            risks,
+            claims,
+            opened,
+            total,
+            limited,
+            next,
+        },
+    }
+}
+
+// The walk over so many risks, one after another, from a place on, which is the header's end.
+pub fn walk(file: &[u8], place: BitPlace, risks: u32, edition: u32, limit: u32) -> Walked
+    requires { ⌜ (risks ≤ mostRisks) × (place .at ≡ headerBits) × (edition ≡ editionOf (now file)) ⌝ }
+    ensures { λ r. ⌜ WalkIs (now (file .entry)) risks limit r ⌝ }
+{
+    let mut totals = [0u32; MOST_RISKS];
+    let mut limiteds = [0u32; MOST_RISKS];
+    let mut sums = SumsSoFar {
+        risks: 0,
+        claims: 0,
+        opened: true,
+        total: 0,
+        limited: 0,
+        next: place,
+    };
+    while sums.risks < risks {
+        let i = sums.risks as usize;
+        let risk = pass_risk(file, sums, edition, limit);
+        totals[i] = risk.total;
+        limiteds[i] = risk.limited;
+        sums = risk.sums;
+    }
+    let end = sums.next;
+    Walked {
+        end,
+        claims: sums.claims,
+        opened: sums.opened,
+        losses: GroupLosses {
+            risks,
+            total: sums.total,
+            limited: sums.limited,
+            totals,
+            limiteds,
+        },
+    }
+}
+
+// Goes over the counts of so many risks from a place on, which is the header's end, and looks at no claim but for the bit of each
+// risk's first.
+pub fn count_claims(file: &[u8], place: BitPlace, risks: u32, edition: u32) -> Counted
+    requires { ⌜ (risks ≤ mostRisks) × (place .at ≡ headerBits) × (edition ≡ editionOf (now file)) ⌝ }
+    ensures { λ r. ⌜ CountedIs (now (file .entry)) risks r ⌝ }
+{
+    let mut claims: u32 = 0;
+    let mut opened = true;
+    let mut next = place;
+    let mut i: u32 = 0;
+    while i < risks {
+        let count = count_at(file, next);
+        claims += count.value;
+        opened = opened & opens_at(file, count.next, count.value, edition);
+        next = past_claims(count.next, count.value, edition);
+        i += 1;
+    }
+    Counted {
+        end: next,
+        claims,
+        opened,
+    }
+}
