@@ -4,7 +4,7 @@ use mathlib.Core.Bool.{Bool, _&&_}
 use mathlib.Core.List.{List}
 use Prim.Native.Nat.{ℕ}
 use lib.Dec.{leb}
-use Rattle.plan.specs.Header.{headerOf, headerBits, riskCount, valueOf, editionField, taxField, spareField}
+use Rattle.plan.specs.Header.{headerOf, headerBits, editionOf, riskCount, valueOf, taxField, spareField}
 use Rattle.group.specs.Values.{headerIs}
 use Rattle.groupfile.specs.declared.header.FirstFields.{FirstFields}
 use Rattle.groupfile.specs.declared.header.LastFields.{LastFields}
@@ -15,7 +15,7 @@ abbrev pub tax-place : ℕ
 tax-place = taxField .at
 
 pub record FirstFieldsAre (s : List ℕ) (r : FirstFields) : Type 0 where
-  pub edition : r .edition ≡ valueOf s editionField
+  pub edition : r .edition ≡ editionOf s
   pub limit : r .«loss_limit» ≡ headerOf s .lossLimit
   pub premium : r .«standard_premium» ≡ headerOf s .standardPremium
   pub expense : r .expense ≡ headerOf s .expense
@@ -32,7 +32,7 @@ pub record LastFieldsAre (s : List ℕ) (r : LastFields) : Type 0 where
   pub next : r .next .at ≡ headerBits
 
 pub record FileHeaderIs (s : List ℕ) (r : FileHeader) : Type 0 where
-  pub edition : r .edition ≡ valueOf s editionField
+  pub edition : r .edition ≡ editionOf s
   pub values : headerIs (r .values) ≡ headerOf s
   pub risks : r .risks ≡ riskCount s
   pub spare : r .spare ≡ valueOf s spareField

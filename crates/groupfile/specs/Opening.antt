@@ -3,7 +3,7 @@ use mathlib.Core.Path.{_≡_}
 use mathlib.Core.List.{List}
 use Prim.Native.Nat.{ℕ}
 use Rattle.plan.specs.Arithmetic.{sum}
-use Rattle.plan.specs.Header.{headerOf, headerBits, riskCount}
+use Rattle.plan.specs.Header.{headerOf, headerBits, editionOf, riskCount}
 use Rattle.plan.specs.File.{countsOf}
 use Rattle.plan.specs.Losses.{lossesIn}
 use Rattle.plan.specs.Questions.{Question, firstNo}
@@ -12,8 +12,9 @@ use Rattle.groupfile.specs.declared.opening.RiskRun.{RiskRun}
 use Rattle.groupfile.specs.declared.opening.Opened.{Opened}
 use Rattle.groupfile.specs.declared.opening.Outline.{Outline}
 
--- the risks of the file s: where they begin, and how many claims there are
+-- the risks of the file s: the edition in which they lie, where they begin, and how many claims there are
 pub record RiskRunIs (s : List ℕ) (r : RiskRun) : Type 0 where
+  pub edition : r .edition ≡ editionOf s
   pub first : r .first .at ≡ headerBits
   pub claims : r .claims ≡ sum (countsOf s)
 

@@ -1,6 +1,6 @@
 // The header of a group file: its eleven fields, taken one after another, and questions 3 to 7 of their values, with 18 after 6.
 ghost use mathlib.Core.Path.{_≡_};
-ghost use Rattle.plan.specs.Questions.{firstNo, headerQuestions};
+ghost use Rattle.plan.specs.Questions.{firstNo, knownEdition, headerQuestions};
 ghost use Rattle.plan.specs.Header.{headerBits};
 ghost use Rattle.group.specs.Values.{headerIs, verdictIs};
 ghost use Rattle.groupfile.specs.Header.{between, tax-place, FirstFieldsAre, LastFieldsAre, FileHeaderIs};
@@ -133,6 +133,13 @@ fn in_range(low: u32, x: u32, high: u32) -> bool
     ensures { λ r. ⌜ r ≡ between low x high ⌝ }
 {
     low <= x && x <= high
+}
+
+// Whether an edition is one that is read and written: 1 or 2.
+pub fn known_edition(edition: u32) -> bool
+    ensures { λ r. ⌜ r ≡ knownEdition edition ⌝ }
+{
+    edition == 1 || edition == 2
 }
 
 // Questions 3 to 6, 18 and 7 of header values and the number of risks.

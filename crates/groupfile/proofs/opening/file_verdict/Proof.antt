@@ -1,13 +1,15 @@
--- Each return is the first No of the questions so far: length, edition and spare bit, then the header's, then those of the end.
+-- Each return is the first No of the questions so far: length, edition and spare bit, then the header's, then those of the end and of
+-- the first claims.
 -- Assumes nothing.
 use mathlib.Core.Path.{_≡_, sym, ap, ap₂, _∙_}
+use mathlib.Core.Bool.{Bool, true}
 use mathlib.Core.List.{List, _∷_, _++_}
 use Prim.Native.Nat.{ℕ}
 use borrow.Author.Needs.{needs}
-use borrow.Author.Tests.{le-leb, lt-leb, eq-eqb, ne-eqb}
+use borrow.Author.Tests.{le-leb, lt-leb, eq-eqb, ne-eqb, not-true, not-false}
 use Rattle.plan.specs.Header as plan
-use Rattle.plan.specs.Header.{headerOf, riskCount}
-use Rattle.plan.specs.Questions.{Question, firstNo, orElse, question2, headerQuestions, endQuestions, fileQuestions}
+use Rattle.plan.specs.Header.{headerOf, editionOf, riskCount}
+use Rattle.plan.specs.Questions.{Question, firstNo, orElse, knownEdition, question2, headerQuestions, endQuestions, fileQuestions}
 use Rattle.plan.proofs.Tests.{and-yes, and-first-no, and-second-no}
 use Rattle.plan.proofs.Questions.{goes-on, stops, after-gate}
 use Rattle.group.specs.Values.{verdictIs}
@@ -40,13 +42,18 @@ file s = s .args .file .now
 past1 : (c : tie.Else1) → firstNo (fileQuestions (file (long c))) ≡ firstNo (question2 (file (long c)) ∷ later (file (long c)))
 past1 c = let s = file (long c) in goes-on 1 (question2 s ∷ later s) (le-leb _ _ (c .if1 .left))
 
+-- the edition's test is that of question 2
+tested : (c : tie.After-known-edition) {b : Bool} → c .known-edition .result ≡ b → knownEdition (editionOf (file (long (c .before)))) ≡ b
+tested c e = ap knownEdition (sym (long (c .before) .pre .0 .edition)) ∙ sym (c .known-edition .ensures) ∙ e
+
+known : (c : tie.Else2) → knownEdition (editionOf (file (edition c))) ≡ true
+known c = tested (c .before) (not-false (c .before .known-edition .result) (c .if2 .left))
+
 past2 : (c : tie.Else3) → firstNo (fileQuestions (file (spare c))) ≡ firstNo (later (file (spare c)))
 past2 c =
     let e = c .before .before in
-    let h = spare c .pre .0 in
     past1 (e .before .before)
-    ∙ goes-on 2 (later (file (spare c)))
-    (and-yes (eq-eqb _ _ (sym (h .edition) ∙ e .if2 .left)) (eq-eqb _ _ (sym (h .spare) ∙ c .if3 .left)))
+    ∙ goes-on 2 (later (file (spare c))) (and-yes (known e) (eq-eqb _ _ (sym (spare c .pre .0 .spare) ∙ c .if3 .left)))
 
 -- the header's questions decide, else those of the end
 decided : (c : tie.After-header-verdict)
@@ -64,19 +71,20 @@ decided c =
 returns : tie.Need-returns
 returns c = let s = file (c .before .before) in sym (stops 1 (question2 s ∷ later s) (lt-leb _ _ (c .if1 .taken)))
 
+known-edition-requires : tie.Need-known-edition-requires
+known-edition-requires c κs = search needs
+
 returns-2 : tie.Need-returns-2
 returns-2 c =
-    let p = c .before .before in
-    let other = ne-eqb _ _ (λ z. c .if2 .taken (long p .pre .0 .edition ∙ z)) in
-    sym (past1 p ∙ stops 2 (later (file (long p))) (and-first-no _ other))
+    let e = c .before in
+    let p = e .before in
+    sym (past1 p ∙ stops 2 (later (file (long p))) (and-first-no _ (tested e (not-true (e .known-edition .result) (c .if2 .taken)))))
 
 returns-3 : tie.Need-returns-3
 returns-3 c =
     let e = c .before .before in
-    let h = edition e .pre .0 in
     sym (past1 (e .before .before)
-    ∙ stops 2 (later (file (edition e)))
-    (and-second-no (eq-eqb _ _ (sym (h .edition) ∙ e .if2 .left)) (ne-eqb _ _ (λ z. c .if3 .taken (h .spare ∙ z)))))
+    ∙ stops 2 (later (file (edition e))) (and-second-no (known e) (ne-eqb _ _ (λ z. c .if3 .taken (edition e .pre .0 .spare ∙ z)))))
 
 cast-header-verdict : tie.Need-cast-header-verdict
 cast-header-verdict c = search needs
@@ -111,6 +119,7 @@ file-verdict-spec =
     tie.close
     (tie.spec
     returns
+    known-edition-requires
     returns-2
     returns-3
     cast-header-verdict

@@ -23,7 +23,7 @@ walk-requires : tie.Need-walk-requires
 walk-requires c κs =
     let h = known c in
     let e = h .header-of .ensures in
-    (omega (arith, e .risks, risks-le (h .before .before .args .file .now)), e .next)
+    (omega (arith, e .risks, risks-le (h .before .before .args .file .now)), e .next, e .edition)
 
 walked : (c : tie.After-walk)
     → let s = known (c .before) .before .before .args .file .now in
@@ -36,7 +36,7 @@ walked c =
     (c .walk .ensures)
 
 file-verdict-requires : tie.Need-file-verdict-requires
-file-verdict-requires c κs = (known (c .before) .header-of .ensures, next-is-end (walked c .sums))
+file-verdict-requires c κs = (known (c .before) .header-of .ensures, (next-is-end (walked c .sums), walked c .sums .opened))
 
 returns : tie.Need-returns
 returns c =
@@ -47,7 +47,7 @@ returns c =
     record {
       verdict = c .before .file-verdict .ensures;
       header = e .values;
-      run = record { first = e .next; claims = l .sums .claims };
+      run = record { edition = e .edition; first = e .next; claims = l .sums .claims };
       losses = record {
         risks = l .sums .risks ∙ sym (length-losses (h .before .before .args .file .now));
         total = total-is-all (l .sums);

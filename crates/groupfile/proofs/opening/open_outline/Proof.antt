@@ -20,7 +20,7 @@ count-claims-requires : tie.Need-count-claims-requires
 count-claims-requires c κs =
     let h = known c in
     let e = h .header-of .ensures in
-    (omega (arith, e .risks, risks-le (h .before .before .args .file .now)), e .next)
+    (omega (arith, e .risks, risks-le (h .before .before .args .file .now)), e .next, e .edition)
 
 counted : (c : tie.After-count-claims)
     → let s = known (c .before) .before .before .args .file .now in CountedIs s (plan.riskCount s) (c .count-claims .result)
@@ -30,7 +30,7 @@ counted c =
     subst (λ (n : ℕ). CountedIs s n (c .count-claims .result)) (h .header-of .ensures .risks) (c .count-claims .ensures)
 
 file-verdict-requires : tie.Need-file-verdict-requires
-file-verdict-requires c κs = (known (c .before) .header-of .ensures, counted c .end)
+file-verdict-requires c κs = (known (c .before) .header-of .ensures, (counted c .end, counted c .opened))
 
 returns : tie.Need-returns
 returns c =
@@ -40,7 +40,7 @@ returns c =
       verdict = c .file-verdict .ensures;
       header = e .values;
       risks = e .risks;
-      run = record { first = e .next; claims = counted w .claims };
+      run = record { edition = e .edition; first = e .next; claims = counted w .claims };
     }
 
 pub open-outline-spec : {M : Type 1} → statement M
