@@ -12,7 +12,7 @@ pub const MOST_CLAIMS: u32 = 63;
 
 pub const MOST_MARK: u32 = 6000;
 
-pub const LARGEST_FILE: usize = 40370;
+pub const LARGEST_FILE: usize = 42378;
 
 // The header values, loss limit to minimum mark.
 #[repr(C)]

@@ -17,7 +17,7 @@ use Rattle.plan.specs.Header.{editionOf}
 use Rattle.plan.specs.Claim.{Claim, claim, joined, dollars, joinedWidth, dollarsWidth, claimWidth, claimAt, pastClaim, claimsFrom}
 use Rattle.plan.specs.Claim.{pastClaims, slotsOfClaim, slotsOfClaims, claimsOf}
 use Rattle.plan.proofs.Tests.{both, and-yes}
-use Rattle.plan.proofs.Fields.{field-lt, field-none, field-split}
+use Rattle.plan.proofs.Fields.{field-lt, field-below, field-none, field-split}
 use Rattle.plan.proofs.Written.{width-append, laid-append, laid-first, laid-second, fitting-append}
 
 -- ---- widths
@@ -54,6 +54,9 @@ dollars-at s at = refl
 
 pub dollars-le : (s : List ℕ) (at : ℕ) → dollars (claimAt s at) ≤ largestClaim
 dollars-le s at = omega (arith, dollars-at s at, field-lt s (at + joinedWidth (editionOf s)) dollarsWidth)
+
+pub joined-le : (s : List ℕ) (at : ℕ) → joined (claimAt s at) ≤ 1
+joined-le s at = omega (arith, joined-at s at, field-below s at (joinedWidth (editionOf s)) 1 (joined-width-le (editionOf s)))
 
 -- both fields taken as one
 pub joined-of-both : (s : List ℕ) (at : ℕ) → field s at (claimWidth (editionOf s)) / 2 ^ dollarsWidth ≡ joined (claimAt s at)
