@@ -17,7 +17,7 @@ use Rattle.bits.proofs.Runs.{Putting}
 -- ---- two fields as one
 
 -- where the one lies, so do the two
-laid-two : (s : List ℕ) (at v a w b : ℕ) (fs : List Slot) → b < 2 ^ w → Laid s at (slot (v + w) (a * 2 ^ w + b) ∷ fs)
+pub laid-two : (s : List ℕ) (at v a w b : ℕ) (fs : List Slot) → b < 2 ^ w → Laid s at (slot (v + w) (a * 2 ^ w + b) ∷ fs)
     → Laid s at (slot v a ∷ slot w b ∷ fs)
 laid-two s at v a w b fs h l =
     let x : ℕ = field s at v in

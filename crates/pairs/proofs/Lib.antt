@@ -1,2 +1,3 @@
--- The law of the loop.
+-- The laws of the loops, and of a claim's two fields as one.
 mod ByPairs
+mod AsOne

@@ -1,203 +1,68 @@
--- The invariant: of the claims, those from i on are left to be put, after the bits that are held. The measure is how many. The
--- run's first byte may be begun; the bits held then are its own, and are put as they were. Assumes nothing.
-use mathlib.Core.Path.{_≡_, refl, sym, subst}
-use mathlib.Core.List.{List, []}
-use Prim.Native.Nat.{ℕ, _+_, _-_, _*_, _/_, _%_, _<_}
-use native.Mathlib.Omega.{arith}
+-- Each edition's claims by its own function; in edition 1 the bits' fields have no bits, so the dollars are all there is to put.
+-- Assumes nothing.
+use mathlib.Core.Path.{_≡_, sym, ap, subst}
+use mathlib.Core.Bool.{Bool, cond}
+use mathlib.Core.List.{List}
+use Prim.Native.Nat.{ℕ}
 use borrow.Author.Needs.{needs}
-use lib.ListN.{length}
-use Rattle.plan.specs.Claim.{slotsOfClaims}
+use borrow.Author.Tests.{ne-eqb}
+use Rattle.plan.specs.Claim.{Claim, joinedWidth, slotsOfClaims, claimsOf}
 use Rattle.bits.specs.Runs.{Space, Wrote}
-use Rattle.bits.proofs.Runs.{room, space-first, putting-run, putting-ends}
-use Rattle.pairs.proofs.ByPairs.{Pairs, pairs-start, held-fits, pair-fits, five-bytes, pairs-more, last-left, none-left}
+use Rattle.pairs.proofs.AsOne.{space-plain, wrote-plain}
 use Rattle.pairs.proofs.put_claims.Statement.{statement}
 use Rattle.pairs.proofs.put_claims.Tie as tie
 
-abbrev Inv-loop : tie.InvT-loop
-Inv-loop out₀ claims skip byte₀ held₀ i₀ out byte held i = Pairs out₀ (8 * byte₀ + skip) claims out skip byte held i
+-- the claims that are handed over
+abbrev given : tie.Start → List Claim
+given s = claimsOf (s .args .joined .now) (s .args .claims .now)
 
-abbrev μ-loop : tie.MeasureT-loop
-μ-loop out₀ claims skip byte₀ held₀ i₀ out byte held i = length claims - i
+-- the entry, from each side of the test
+abbrev with-bits : tie.Then1 → tie.Start
+with-bits c = c .before .before .before .before
 
--- a place is at a bit of its byte
-in-byte : (at : ℕ) → at ≡ 8 * (at / 8) + at % 8
-in-byte at = omega arith
+abbrev without : tie.Else1 → tie.Start
+without c = c .before .before .before .before
 
--- the entry, from the loop's head
-abbrev entry : tie.At-loop Inv-loop μ-loop → tie.Start Inv-loop μ-loop
-entry c = c .before .before .before .before .before .before .before .before
+-- the bit's field has no bits
+none : (c : tie.Else1) → joinedWidth (without c .args .edition) ≡ 0
+none c = ap (λ (b : Bool). cond b 1 0) (ne-eqb _ _ (c .if1 .left))
 
--- the bits held are fewer than eight
-few : (c : tie.At-loop Inv-loop μ-loop) → entry c .args .place .at % 8 < 8
-few c = omega arith
+put-joined-requires : tie.Need-put-joined-requires
+put-joined-requires c κs =
+    let s = with-bits (c .before) in
+    let a = s .args in
+    let is-two = c .before .if1 .taken in
+    (subst (λ (e : ℕ). Space (a .out .now) (a .place .at) (slotsOfClaims e (given s))) is-two (s .pre .0), s .pre .1)
 
-cast-skip : tie.Need-cast-skip Inv-loop μ-loop
-cast-skip c = search needs
-
-mul-if1 : tie.Need-mul-if1 Inv-loop μ-loop
-mul-if1 c = search needs
-
-take-requires : tie.Need-take-requires Inv-loop μ-loop
-take-requires c κs = search needs
-
-cast-held : tie.Need-cast-held Inv-loop μ-loop
-cast-held c = search needs
-
-loop-holds : tie.Need-loop-holds Inv-loop μ-loop
-loop-holds c =
-    let e = c .before .before .before .before .before .before .before in
-    let at = e .args .place .at in
-    pairs-start (subst (λ (x : ℕ). Space (e .args .out .now) x (slotsOfClaims (e .args .claims .now))) (in-byte at) (e .pre)) refl
-    (c .before .take .ensures .is)
-
-add-loop : tie.Need-add-loop Inv-loop μ-loop
-add-loop c = search needs
-
-mul-pair-after : tie.Need-mul-pair-after Inv-loop μ-loop
-mul-pair-after c = search needs
-
-shared-slice-read-pair-after : tie.Need-shared-slice-read-pair-after Inv-loop μ-loop
-shared-slice-read-pair-after c = search needs
-
-add-pair-after : tie.Need-add-pair-after Inv-loop μ-loop
-add-pair-after c = search needs
-
-mul-pair-after-2 : tie.Need-mul-pair-after-2 Inv-loop μ-loop
-mul-pair-after-2 c = search needs
-
-shared-slice-read-pair-after-2 : tie.Need-shared-slice-read-pair-after-2 Inv-loop μ-loop
-shared-slice-read-pair-after-2 c = search needs
-
-pair-after-requires : tie.Need-pair-after-requires Inv-loop μ-loop
-pair-after-requires c κs =
-    let l = c .before .before in
-    pair-fits (l .before .loop .inv) (l .loop-test .taken) (few (l .before))
-
-mul-t15 : tie.Need-mul-t15 Inv-loop μ-loop
-mul-t15 c = search needs
-
-cast-put-five : tie.Need-cast-put-five Inv-loop μ-loop
-cast-put-five c = search needs
-
-shr-put-five : tie.Need-shr-put-five Inv-loop μ-loop
-shr-put-five c = search needs
-
-put-five-requires : tie.Need-put-five-requires Inv-loop μ-loop
-put-five-requires c κs =
-    let w = c .before in
-    let l = w .before .before .before in
-    five-bytes (l .before .loop .inv) (l .loop-test .taken) (w .pair-after .ensures)
-
-extract-requires : tie.Need-extract-requires Inv-loop μ-loop
-extract-requires c κs = search needs
-
-add-byte : tie.Need-add-byte Inv-loop μ-loop
-add-byte c = search needs
-
-add-i : tie.Need-add-i Inv-loop μ-loop
-add-i c = search needs
-
-loop-less : tie.Need-loop-less Inv-loop μ-loop
-loop-less c = search needs
-
-loop-again : tie.Need-loop-again Inv-loop μ-loop
-loop-again c =
-    let five = c .before .before .before in
-    let w = five .before .before in
-    let l = w .before .before .before in
-    pairs-more (l .before .loop .inv) (l .loop-test .taken) (w .pair-after .ensures) (five .put-five .ensures .1)
-    (c .extract .ensures)
-
-mul-if1-2 : tie.Need-mul-if1-2 Inv-loop μ-loop
-mul-if1-2 c = search needs
-
-cast-put : tie.Need-cast-put Inv-loop μ-loop
-cast-put c = let l = c .before .before in omega (arith, held-fits (l .loop .inv) (few l))
-
-put-requires : tie.Need-put-requires Inv-loop μ-loop
-put-requires c κs = let l = c .before .before in room (l .loop .inv .putting .space) (omega (arith, few l))
-
-mul-put-claim : tie.Need-mul-put-claim Inv-loop μ-loop
-mul-put-claim c = search needs
-
-shared-slice-read-put-claim : tie.Need-shared-slice-read-put-claim Inv-loop μ-loop
-shared-slice-read-put-claim c = search needs
-
-put-claim-requires : tie.Need-put-claim-requires Inv-loop μ-loop
-put-claim-requires c κs =
-    let t = c .before .before in
-    let put = t .before .before .before in
-    let l = put .before .before in
-    let last = last-left (l .before .loop .inv) (l .loop-test .left) (put .put .ensures) (omega (arith, t .if1 .taken)) in
-    space-first _ _ (last .space)
-
--- what was put from the begun byte's bit on was put from the place on
-back : (e : tie.Start Inv-loop μ-loop) {u : List ℕ} {q : ℕ}
-    → let a = e .args in
-    Wrote (a .out .now) (8 * (a .place .at / 8) + a .place .at % 8) (slotsOfClaims (a .claims .now)) u q
-    → Wrote (a .out .now) (a .place .at) (slotsOfClaims (a .claims .now)) u q
-back e {u} {q} x =
-    let a = e .args in
-    subst (λ (y : ℕ). Wrote (a .out .now) y (slotsOfClaims (a .claims .now)) u q) (sym (in-byte (a .place .at))) x
-
-same-length : tie.Need-same-length Inv-loop μ-loop
+same-length : tie.Need-same-length
 same-length c = search needs
 
-returns : tie.Need-returns Inv-loop μ-loop
+returns : tie.Need-returns
 returns c =
     let p = c .before .before in
-    let t = p .before .before .before in
-    let put = t .before .before .before in
-    let l = put .before .before in
-    back (entry (l .before))
-    (putting-ends
-    (putting-run _ [] (last-left (l .before .loop .inv) (l .loop-test .left) (put .put .ensures) (omega (arith, t .if1 .taken)))
-    (p .put-claim .ensures)))
+    let t = p .before .before in
+    let s = with-bits t in
+    let a = s .args in
+    let r = p .put-joined in
+    subst (λ (e : ℕ). Wrote (a .out .now) (a .place .at) (slotsOfClaims e (given s)) (r .last .0) (r .result .at))
+    (sym (t .if1 .taken)) (r .ensures)
 
-same-length-2 : tie.Need-same-length-2 Inv-loop μ-loop
+put-dollars-requires : tie.Need-put-dollars-requires
+put-dollars-requires c κs =
+    let s = without (c .before) in
+    space-plain (s .args .edition) (s .args .joined .now) (s .args .claims .now) (none (c .before)) (s .pre .1) (s .pre .0)
+
+same-length-2 : tie.Need-same-length-2
 same-length-2 c = search needs
 
-returns-2 : tie.Need-returns-2 Inv-loop μ-loop
+returns-2 : tie.Need-returns-2
 returns-2 c =
-    let put = c .before .before .before in
-    let l = put .before .before in
-    back (entry (l .before))
-    (none-left (l .before .loop .inv) (l .loop-test .left) (put .put .ensures) (c .if1 .left))
+    let p = c .before .before in
+    let t = p .before .before in
+    let s = without t in
+    wrote-plain (s .args .edition) (s .args .joined .now) (s .args .claims .now) (none t) (s .pre .1) (s .pre .0)
+    (p .put-dollars .ensures)
 
 pub put-claims-spec : {M : Type 1} → statement M
 put-claims-spec =
-    tie.close
-    (tie.spec
-    Inv-loop
-    μ-loop
-    cast-skip
-    mul-if1
-    take-requires
-    cast-held
-    loop-holds
-    add-loop
-    mul-pair-after
-    shared-slice-read-pair-after
-    add-pair-after
-    mul-pair-after-2
-    shared-slice-read-pair-after-2
-    pair-after-requires
-    mul-t15
-    cast-put-five
-    shr-put-five
-    put-five-requires
-    extract-requires
-    add-byte
-    add-i
-    loop-less
-    loop-again
-    mul-if1-2
-    cast-put
-    put-requires
-    mul-put-claim
-    shared-slice-read-put-claim
-    put-claim-requires
-    same-length
-    returns
-    same-length-2
-    returns-2)
+    tie.close (tie.spec put-joined-requires same-length returns put-dollars-requires same-length-2 returns-2)
