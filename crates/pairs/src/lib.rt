@@ -1,7 +1,7 @@
 // A run of claims put. In edition 1 they are put by pairs: two claims are five whole bytes, so every pair of a run begins at the
 // same bit of its byte. The bits of the byte that is begun are held in a number: they and a pair, but for the bits that are held
-// next, are five bytes to store. What a pair stored is not looked at again. The places in the loop are made of a byte's number, so
-// that each is seen to begin with a byte: five bytes are then stored without a look at the bit.
+// next, are five bytes to store. What a pair stored is not looked at again. The places in the loop are made of a byte's number,
+// so that each is seen to begin with a byte: five bytes are then stored without a look at the bit.
 ghost use mathlib.Core.Path.{_≡_};
 ghost use Prim.Native.Nat.{_+_, _*_, _^_, _<_};
 ghost use lib.ListN.{length};

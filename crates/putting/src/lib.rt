@@ -5,11 +5,12 @@ ghost use Prim.Native.Nat.{_≤_};
 ghost use lib.ListN.{length};
 ghost use Rattle.plan.specs.Arithmetic.{sum};
 ghost use Rattle.plan.specs.Calls.{filled};
+ghost use Rattle.plan.specs.Claim.{claimsOf};
 ghost use Rattle.plan.specs.Risk.{slotsOfRisks};
 ghost use Rattle.plan.specs.File.{fileOf};
 ghost use Rattle.bits.specs.Runs.{Space, Wrote};
 ghost use Rattle.group.specs.Values.{headerIs};
-ghost use Rattle.putting.specs.Putting.{firstSlots, lastSlots, slotsOfRisk, Ready};
+ghost use Rattle.putting.specs.Putting.{firstSlots, lastSlots, slotsOfRisk, givenGroup, Ready};
 use bits::BitPlace;
 use claims::walk::COUNT_WIDTH;
 use group::Header;
@@ -26,11 +27,11 @@ use groupfile::header::TAX_WIDTH;
 use pairs::put_claims;
 
 // Puts edition to loss conversion factor, and gives the place after them.
-fn put_first(out: &mut [u8], h: Header) -> BitPlace
-    requires { ⌜ Space (now out) 0 (firstSlots (headerIs h)) ⌝ }
-    ensures { λ r. ⌜ Wrote (now (out .entry)) 0 (firstSlots (headerIs h)) (now (out .exit)) (r .at) ⌝ }
+fn put_first(out: &mut [u8], edition: u32, h: Header) -> BitPlace
+    requires { ⌜ Space (now out) 0 (firstSlots edition (headerIs h)) ⌝ }
+    ensures { λ r. ⌜ Wrote (now (out .entry)) 0 (firstSlots edition (headerIs h)) (now (out .exit)) (r .at) ⌝ }
 {
-    let limit = BitPlace { at: 0 }.put(out, EDITION_WIDTH, 1);
+    let limit = BitPlace { at: 0 }.put(out, EDITION_WIDTH, edition);
     let premium = limit.put(out, LOSS_LIMIT_WIDTH, h.loss_limit);
     let expense = premium.put(out, STANDARD_PREMIUM_WIDTH, h.standard_premium);
     let conversion = expense.put(out, EXPENSE_WIDTH, h.expense);
@@ -52,28 +53,49 @@ fn put_last(out: &mut [u8], place: BitPlace, h: Header, risks: u32) -> BitPlace
 }
 
 // Puts a risk: the number of its claims, then its claims.
-fn put_risk(out: &mut [u8], place: BitPlace, claims: &[u32]) -> BitPlace
-    requires { ⌜ Space (now out) (place .at) (slotsOfRisk (now claims)) ⌝ }
-    ensures { λ r. ⌜ Wrote (now (out .entry)) (place .at) (slotsOfRisk (now (claims .entry)))
+fn put_risk(
+    out: &mut [u8],
+    place: BitPlace,
+    edition: u32,
+    joined: &[u8],
+    claims: &[u32],
+) -> BitPlace
+    requires { ⌜ Space (now out) (place .at) (slotsOfRisk edition (now joined) (now claims)) ⌝ }
+    requires { ⌜ length (now joined) ≡ length (now claims) ⌝ }
+    ensures { λ r. ⌜ Wrote (now (out .entry)) (place .at) (slotsOfRisk edition (now (joined .entry)) (now (claims .entry)))
         (now (out .exit)) (r .at) ⌝ }
 {
     let next = place.put(out, COUNT_WIDTH, claims.len() as u32);
-    put_claims(out, next, claims)
+    put_claims(out, next, edition, joined, claims)
 }
 
 // Puts the risks, each with as many of the claims as its count says.
-fn put_risks(out: &mut [u8], place: BitPlace, counts: &[u8], claims: &[u32]) -> BitPlace
-    requires { ⌜ Space (now out) (place .at) (slotsOfRisks (now counts) (now claims)) ⌝ }
-    requires { ⌜ sum (now counts) ≤ length (now claims) ⌝ }
+fn put_risks(
+    out: &mut [u8],
+    place: BitPlace,
+    edition: u32,
+    counts: &[u8],
+    claims: &[u32],
+    joined: &[u8],
+) -> BitPlace
+    requires { ⌜ Space (now out) (place .at) (slotsOfRisks edition (now counts) (claimsOf (now joined) (now claims))) ⌝ }
+    requires { ⌜ (sum (now counts) ≤ length (now claims)) × (length (now joined) ≡ length (now claims)) ⌝ }
     ensures { λ r. ⌜ Wrote (now (out .entry)) (place .at)
-        (slotsOfRisks (now (counts .entry)) (now (claims .entry))) (now (out .exit)) (r .at) ⌝ }
+        (slotsOfRisks edition (now (counts .entry)) (claimsOf (now (joined .entry)) (now (claims .entry))))
+        (now (out .exit)) (r .at) ⌝ }
 {
     let mut next = place;
     let mut i = 0;
     let mut first = 0;
     while i < counts.len() {
         let past = first + counts[i] as usize;
-        next = put_risk(out, next, &claims[first..past]);
+        next = put_risk(
+            out,
+            next,
+            edition,
+            &joined[first..past],
+            &claims[first..past],
+        );
         first = past;
         i += 1;
     }
@@ -82,14 +104,23 @@ fn put_risks(out: &mut [u8], place: BitPlace, counts: &[u8], claims: &[u32]) -> 
 
 // Puts the file over the first bytes of the buffer, as many as `size`: every field, then zero bits that fill the
 // last byte.
-pub fn put_file(out: &mut [u8], header: Header, counts: &[u8], claims: &[u32], size: usize)
-    requires { ⌜ Ready (headerIs header) (now counts) (now claims) (now out) size ⌝ }
+pub fn put_file(
+    out: &mut [u8],
+    edition: u32,
+    header: Header,
+    counts: &[u8],
+    claims: &[u32],
+    joined: &[u8],
+    size: usize,
+)
+    requires { ⌜ Ready (givenGroup edition header (now counts) (now claims) (now joined)) (now out) size ⌝ }
     ensures { λ r. ⌜ now (out .exit)
-        ≡ filled (fileOf (headerIs header) (now (counts .entry)) (now (claims .entry))) (now (out .entry)) ⌝ }
+        ≡ filled (fileOf (givenGroup edition header (now (counts .entry)) (now (claims .entry)) (now (joined .entry))))
+        (now (out .entry)) ⌝ }
 {
-    let first = put_first(out, header);
+    let first = put_first(out, edition, header);
     let last = put_last(out, first, header, counts.len() as u32);
-    let end = put_risks(out, last, counts, claims);
+    let end = put_risks(out, last, edition, counts, claims, joined);
     let fill = 8 * size - end.at;
     end.put(out, fill as u32, 0);
 }

@@ -10,9 +10,8 @@ use lib.ListN.{length}
 use lib.Pow.{pow-pos}
 use Rattle.plan.specs.Sizes.{largestFile}
 use Rattle.plan.specs.Field.{Slot, totalWidth, bytesFor}
-use Rattle.plan.specs.Header.{Header}
 use Rattle.plan.specs.Risk.{slotsOfRisks}
-use Rattle.plan.specs.File.{fileSlots, fileOf, fileLength}
+use Rattle.plan.specs.File.{Group, claimsGiven, fileSlots, fileOf, fileLength}
 use Rattle.plan.specs.Questions.{writeQuestions}
 use Rattle.plan.proofs.Written.{length-bytesOf}
 use Rattle.plan.proofs.Questions.{yes-to}
@@ -23,58 +22,60 @@ use Rattle.bits.specs.Put.{Room}
 use Rattle.bits.specs.Runs.{Space, Wrote}
 use Rattle.bits.proofs.Runs.{space-first, Putting, putting-starts, putting-run}
 use Rattle.bits.proofs.WholeBytes.{fields-put}
-use Rattle.group.specs.Values.{headerIs}
-use Rattle.putting.specs.Putting.{firstSlots, lastSlots, Ready}
+use Rattle.putting.specs.Putting.{firstSlots, lastSlots, givenGroup, Ready}
 use Rattle.putting.proofs.put_file.Statement.{statement}
 use Rattle.putting.proofs.put_file.Tie as tie
 
-module _ {h : Header} {counts claims out : List ℕ} {n : ℕ} (r : Ready h counts claims out n) where
-  sound : WriteSound h counts claims
-  sound = write-sound h counts claims (length out) (r .passes)
+module _ {g : Group} {out : List ℕ} {n : ℕ} (r : Ready g out n) where
+  sound : WriteSound g
+  sound = write-sound g (length out) (r .passes)
 
   -- ---- the file's length
 
-  bytes : n ≡ bytesFor (totalWidth (fileSlots h counts claims))
-  bytes = r .is ∙ length-bytesOf (fileSlots h counts claims)
+  bytes : n ≡ bytesFor (totalWidth (fileSlots g))
+  bytes = r .is ∙ length-bytesOf (fileSlots g)
 
   enough : n ≤ length out
   enough =
-      let yes = yes-to 13 (writeQuestions h counts claims (length out)) refl (r .passes) in
-      omega (arith, r .is, leb-true (fileLength h counts claims) (length out) yes)
+      let yes = yes-to 13 (writeQuestions g (length out)) refl (r .passes) in
+      omega (arith, r .is, leb-true (fileLength g) (length out) yes)
 
   small : n ≤ largestFile
-  small = omega (arith, r .is, file-le (fileOf h counts claims) (made-sound h counts claims sound))
+  small = omega (arith, r .is, file-le (fileOf g) (made-sound g sound))
 
   -- ---- its fields, run after run
 
-  space : Space out 0 (fileSlots h counts claims)
+  space : Space out 0 (fileSlots g)
   space = record {
     within = omega (arith, bytes, enough);
     reach = omega (arith, bytes, small);
-    fitting = file-fitting h counts claims (sound .writable);
+    fitting = file-fitting g (sound .edition) (sound .writable);
   }
 
-  -- the fields after the first run
+  -- the risks' fields, and the fields after the first run
+  abbrev risks : List Slot
+  risks = slotsOfRisks (g .edition) (g .counts) (claimsGiven g)
+
   abbrev rest : List Slot
-  rest = lastSlots h (length counts) ++ slotsOfRisks counts claims
+  rest = lastSlots (g .header) (length (g .counts)) ++ risks
 
-  first-space : Space out 0 (firstSlots h)
-  first-space = space-first (firstSlots h) rest space
+  first-space : Space out 0 (firstSlots (g .edition) (g .header))
+  first-space = space-first (firstSlots (g .edition) (g .header)) rest space
 
-  module _ {t : List ℕ} {p : ℕ} (x : Wrote out 0 (firstSlots h) t p) where
-    after-first : Putting out 0 (fileSlots h counts claims) t p rest
-    after-first = putting-run (firstSlots h) rest (putting-starts space) x
+  module _ {t : List ℕ} {p : ℕ} (x : Wrote out 0 (firstSlots (g .edition) (g .header)) t p) where
+    after-first : Putting out 0 (fileSlots g) t p rest
+    after-first = putting-run (firstSlots (g .edition) (g .header)) rest (putting-starts space) x
 
-    last-space : Space t p (lastSlots h (length counts))
-    last-space = space-first (lastSlots h (length counts)) (slotsOfRisks counts claims) (after-first .space)
+    last-space : Space t p (lastSlots (g .header) (length (g .counts)))
+    last-space = space-first (lastSlots (g .header) (length (g .counts))) risks (after-first .space)
 
-    after-last : {u : List ℕ} {q : ℕ} → Wrote t p (lastSlots h (length counts)) u q
-        → Putting out 0 (fileSlots h counts claims) u q (slotsOfRisks counts claims)
-    after-last y = putting-run (lastSlots h (length counts)) (slotsOfRisks counts claims) after-first y
+    after-last : {u : List ℕ} {q : ℕ} → Wrote t p (lastSlots (g .header) (length (g .counts))) u q
+        → Putting out 0 (fileSlots g) u q risks
+    after-last y = putting-run (lastSlots (g .header) (length (g .counts))) risks after-first y
 
   -- ---- the fill: part of a byte
 
-  module _ {t : List ℕ} {q : ℕ} (x : Wrote out 0 (fileSlots h counts claims) t q) where
+  module _ {t : List ℕ} {q : ℕ} (x : Wrote out 0 (fileSlots g) t q) where
     fill-starts : q ≤ 8 * n
     fill-starts = omega (arith, bytes, x .place)
 
@@ -91,7 +92,7 @@ module _ {h : Header} {counts claims out : List ℕ} {n : ℕ} (r : Ready h coun
 -- ---- the places of the code where a run was put, each from the next
 
 abbrev start : tie.After-put-first → tie.Start
-start c = c .before .before .before .before .before
+start c = c .before .before .before .before .before .before
 
 abbrev first : tie.After-put-last → tie.After-put-first
 first c = c .before .before .before .before
@@ -103,7 +104,9 @@ abbrev entry : tie.After-put-risks → tie.Start
 entry c = start (first (last c))
 
 abbrev slots : tie.Start → List Slot
-slots s = fileSlots (headerIs (s .args .header)) (s .args .counts .now) (s .args .claims .now)
+slots s =
+    let a = s .args in
+    fileSlots (givenGroup (a .edition) (a .header) (a .counts .now) (a .claims .now) (a .joined .now))
 
 -- every field is put
 wrote : (c : tie.After-put-risks)
@@ -115,7 +118,7 @@ wrote c =
 -- ---- the needs
 
 put-first-requires : tie.Need-put-first-requires
-put-first-requires c κs = first-space (c .before .before .before .before .pre)
+put-first-requires c κs = first-space (c .before .before .before .before .before .pre)
 
 cast-put-last : tie.Need-cast-put-last
 cast-put-last c = omega (arith, risks-few (sound (start (c .before .before .before) .pre) .writable))
@@ -128,7 +131,7 @@ put-risks-requires c κs =
     let l = c .before .before .before in
     let p = start (first l) .pre in
     let g = after-last p (first l .put-first .ensures) (l .put-last .ensures) in
-    (g .space, omega (arith, sound p .writable .adds))
+    (g .space, (omega (arith, sound p .writable .adds), sound p .writable .bits))
 
 mul-fill : tie.Need-mul-fill
 mul-fill c = omega (arith, small (entry (c .before .before) .pre))
@@ -150,7 +153,7 @@ returns c =
     let f = c .before .before in
     let r = f .before .before .before .before .before in
     let p = entry r .pre in
-    let old = first (last r) .before .before .before .before in
+    let old = first (last r) .before .before .before .before .before in
     fields-put (slots (entry r)) (space p .fitting) (λ i. old .slice-known .given i .fits)
     (λ i. c .slice-known5 .given i .fits) (wrote r) (f .put .ensures .1) (bytes p) (enough p)
 

@@ -17,7 +17,12 @@ put-requires-4 : tie.Need-put-requires-4
 put-requires-4 c κs = search needs
 
 put-requires-5 : tie.Need-put-requires-5
-put-requires-5 c κs = search needs
+put-requires-5 c κs =
+    let c4 = c .before .before .before in
+    let c3 = c4 .before .before .before .before in
+    let c2 = c3 .before .before .before .before in
+    let c1 = c2 .before .before .before .before in
+    search (needs, c1 .before .before .before .pre, c1 .put .ensures)
 
 same-length : tie.Need-same-length
 same-length c = search needs

@@ -1,6 +1,6 @@
 -- The count's field, and then the claims' fields. Assumes nothing.
 use borrow.Author.Needs.{needs}
-use Rattle.bits.proofs.Runs.{wrote-more}
+use Rattle.bits.proofs.Runs.{space-past, wrote-more}
 use Rattle.putting.proofs.put_risk.Statement.{statement}
 use Rattle.putting.proofs.put_risk.Tie as tie
 
@@ -11,7 +11,10 @@ put-requires : tie.Need-put-requires
 put-requires c κs = search needs
 
 put-claims-requires : tie.Need-put-claims-requires
-put-claims-requires c κs = search needs
+put-claims-requires c κs =
+    let p = c .before .before .before in
+    let s = p .before .before .before .before .before in
+    (space-past (s .pre .0) (p .put .ensures .1 .same) (p .put .ensures .0), s .pre .1)
 
 same-length : tie.Need-same-length
 same-length c = search needs
