@@ -3,15 +3,11 @@ use mathlib.Core.Path.{_≡_}
 use mathlib.Core.List.{List}
 use Prim.Native.Nat.{ℕ}
 use lib.ListN.{length}
-use Rattle.plan.specs.Calls.{Answer, refused, given, giving, Group, write, writeBuffer}
-use Rattle.group.specs.Values.{headerIs}
-use Rattle.group.specs.declared.Header.{Header}
+use Rattle.plan.specs.File.{Group}
+use Rattle.plan.specs.Calls.{Answer, refused, given, giving, write, writeBuffer}
+pub use Rattle.putting.specs.Putting.{givenGroup}
 use Rattle.writing.specs.declared.writer.Written.{Written}
 use Rattle.writing.specs.declared.writer.Written.the-variants as written
-
--- the values that a caller hands to Write
-abbrev pub givenGroup : Header → List ℕ → List ℕ → Group
-givenGroup h counts claims = record { header = headerIs h; counts = counts; claims = claims }
 
 -- Write's number or length
 abbrev pub lengthIs : Written → Answer ℕ

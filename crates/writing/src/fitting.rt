@@ -1,5 +1,6 @@
-// Question 15: whether n, counts, claims and header values fit their widths, and the counts add to the number of
-// claims.
+// What is asked of given values: question 2 of the edition; question 15, whether n, counts, claims, bits and header values fit
+// their widths, the counts add to the number of claims, and there are as many bits; and question 19, whether each risk's first
+// claim has the bit 0.
 ghost use mathlib.Core.Path.{_≡_};
 ghost use mathlib.Core.Bool.{_&&_};
 ghost use Prim.Native.Nat.{_<_, _≤_};
@@ -8,11 +9,15 @@ ghost use lib.ListN.{length};
 ghost use Rattle.plan.specs.Arithmetic.{sum};
 ghost use Rattle.plan.specs.Sizes.{mostRisks};
 ghost use Rattle.plan.specs.Field.{fits, allFit};
-ghost use Rattle.plan.specs.Claim.{claimsFit};
+ghost use Rattle.plan.specs.Claim.{joinedWidth, dollarsWidth};
 ghost use Rattle.plan.specs.Risk.{countWidth};
-ghost use Rattle.plan.specs.Questions.{ask, headerFits, question15};
+ghost use Rattle.plan.specs.Questions.{ask, knownEdition, headerFits, question15};
 ghost use Rattle.group.specs.Values.{headerIs};
-use claims::claim::claim_fits;
+ghost use Rattle.putting.specs.Putting.{givenGroup};
+ghost use Rattle.writing.specs.Fitting.{OpensSays, OpenSays};
+use claims::claim::JOINING_EDITION;
+use claims::claim::dollars_fit;
+use claims::claim::joined_fits;
 use group::Header;
 use group::MOST_CLAIMS;
 use group::MOST_RISKS;
@@ -23,6 +28,20 @@ use groupfile::header::MARK_KIND_WIDTH;
 use groupfile::header::MARK_WIDTH;
 use groupfile::header::STANDARD_PREMIUM_WIDTH;
 use groupfile::header::TAX_WIDTH;
+
+// The edition whose claims have no bit before their dollars.
+const FIRST_EDITION: u32 = 1;
+
+// ---- question 2
+
+// Whether a file can have this edition.
+pub(crate) fn edition_known(edition: u32) -> bool
+    ensures { λ r. ⌜ r ≡ knownEdition edition ⌝ }
+{
+    (edition == FIRST_EDITION) | (edition == JOINING_EDITION)
+}
+
+// ---- question 15
 
 // Whether a value fits so many bits.
 fn value_fits(width: u32, value: u32) -> bool
@@ -64,23 +83,45 @@ fn counts_add(counts: &[u8], claims: usize) -> bool
     total == claims
 }
 
-// Whether the claims fit their width. All are looked at: a loop without another way out can compile to one over several at a
-// time.
+// Whether the dollars of the claims fit their width. All are looked at: a loop without another way out can compile to one over
+// several at a time.
 fn claims_fit(claims: &[u32]) -> bool
-    ensures { λ r. ⌜ r ≡ claimsFit (now (claims .entry)) ⌝ }
+    ensures { λ r. ⌜ r ≡ allFit dollarsWidth (now (claims .entry)) ⌝ }
 {
     let mut fit = true;
     let mut i = 0;
     while i < claims.len() {
-        fit = fit & claim_fits(claims[i]);
+        fit = fit & dollars_fit(claims[i]);
         i += 1;
     }
     fit
 }
 
-// Question 15. Claims are looked at only where there are as many as the counts add to.
-pub(crate) fn values_fit(header: Header, counts: &[u8], claims: &[u32]) -> bool
-    ensures { λ r. ⌜ ask 15 r ≡ question15 (headerIs header) (now (counts .entry)) (now (claims .entry)) ⌝ }
+// Whether the bits of the claims fit their width in an edition: where that is no bits, each is 0. All are looked at, as the
+// dollars are.
+fn joined_fit(edition: u32, joined: &[u8]) -> bool
+    ensures { λ r. ⌜ r ≡ allFit (joinedWidth edition) (now (joined .entry)) ⌝ }
+{
+    let mut fit = true;
+    let mut i = 0;
+    while i < joined.len() {
+        fit = fit & joined_fits(edition, joined[i] as u32);
+        i += 1;
+    }
+    fit
+}
+
+// Question 15. Claims are looked at only where there are as many as the counts add to, and bits where there are as many as
+// claims.
+pub(crate) fn values_fit(
+    edition: u32,
+    header: Header,
+    counts: &[u8],
+    claims: &[u32],
+    joined: &[u8],
+) -> bool
+    ensures { λ r. ⌜ ask 15 r
+        ≡ question15 (givenGroup edition header (now (counts .entry)) (now (claims .entry)) (now (joined .entry))) ⌝ }
 {
     if counts.len() > MOST_RISKS {
         return false;
@@ -88,5 +129,37 @@ pub(crate) fn values_fit(header: Header, counts: &[u8], claims: &[u32]) -> bool
     if !counts_add(counts, claims.len()) {
         return false;
     }
-    claims_fit(claims) & header_fits(header)
+    if joined.len() != claims.len() {
+        return false;
+    }
+    claims_fit(claims) & joined_fit(edition, joined) & header_fits(header)
+}
+
+// ---- question 19
+
+// Whether a risk's first claim has the bit 0, as a risk without claims has.
+fn risk_opens(joined: &[u8]) -> bool
+    ensures { λ r. ⌜ OpensSays (now (joined .entry)) r ⌝ }
+{
+    if joined.len() == 0 {
+        return true;
+    }
+    joined[0] == 0
+}
+
+// Question 19, of as many bits as the counts take.
+pub(crate) fn risks_open(counts: &[u8], joined: &[u8]) -> bool
+    requires { ⌜ sum (now counts) ≤ length (now joined) ⌝ }
+    ensures { λ r. ⌜ OpenSays (now (counts .entry)) (now (joined .entry)) r ⌝ }
+{
+    let mut all = true;
+    let mut i = 0;
+    let mut first = 0;
+    while i < counts.len() {
+        let past = first + counts[i] as usize;
+        all = all & risk_opens(&joined[first..past]);
+        first = past;
+        i += 1;
+    }
+    all
 }

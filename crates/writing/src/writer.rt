@@ -7,8 +7,10 @@ ghost use Rattle.plan.specs.Header.{headerBits};
 ghost use Rattle.plan.specs.Claim.{claimWidth};
 ghost use Rattle.plan.specs.Risk.{countWidth};
 ghost use Rattle.writing.specs.Writer.{givenGroup, WriteSays};
+use crate::fitting::edition_known;
+use crate::fitting::risks_open;
 use crate::fitting::values_fit;
-use claims::claim::CLAIM_WIDTH;
+use claims::claim::claim_width;
 use claims::walk::COUNT_WIDTH;
 use group::Header;
 use group::Verdict;
@@ -22,30 +24,46 @@ pub enum Written {
     Refused(u32),
 }
 
-// The length of a file with so many risks and claims.
-fn file_length(risks: usize, claims: usize) -> usize
+// The length of a file of an edition with so many risks and claims.
+fn file_length(edition: u32, risks: usize, claims: usize) -> usize
     requires { ⌜ (risks ≤ mostRisks) × (claims ≤ mostClaims * mostRisks) ⌝ }
-    ensures { λ r. ⌜ r ≡ bytesFor (headerBits + countWidth * risks + claimWidth * claims) ⌝ }
+    ensures { λ r. ⌜ r ≡ bytesFor (headerBits + countWidth * risks + claimWidth edition * claims) ⌝ }
 {
-    (8 * HEADER_BYTES + COUNT_WIDTH as usize * risks + CLAIM_WIDTH as usize * claims + 7) / 8
+    let bits = 8 * HEADER_BYTES
+        + COUNT_WIDTH as usize * risks
+        + claim_width(edition) as usize * claims;
+    (bits + 7) / 8
 }
 
 // The file of given values, put over the first bytes of `out`; or the first question that failed, and nothing.
-pub fn write(header: Header, counts: &[u8], claims: &[u32], out: &mut [u8]) -> Written
-    ensures { λ r. ⌜ WriteSays (givenGroup header (now (counts .entry)) (now (claims .entry)))
+pub fn write(
+    edition: u32,
+    header: Header,
+    counts: &[u8],
+    claims: &[u32],
+    joined: &[u8],
+    out: &mut [u8],
+) -> Written
+    ensures { λ r. ⌜ WriteSays (givenGroup edition header (now (counts .entry)) (now (claims .entry)) (now (joined .entry)))
         (now (out .entry)) r (now (out .exit)) ⌝ }
 {
+    if !edition_known(edition) {
+        return Written::Refused(2);
+    }
     let verdict = header_verdict(header, counts.len());
     if let Verdict::Failed(question) = verdict {
         return Written::Refused(question);
     }
-    if !values_fit(header, counts, claims) {
+    if !values_fit(edition, header, counts, claims, joined) {
         return Written::Refused(15);
     }
-    let size = file_length(counts.len(), claims.len());
+    if !risks_open(counts, joined) {
+        return Written::Refused(19);
+    }
+    let size = file_length(edition, counts.len(), claims.len());
     if out.len() < size {
         return Written::Refused(13);
     }
-    put_file(out, header, counts, claims, size);
+    put_file(out, edition, header, counts, claims, joined, size);
     Written::Length(size)
 }

@@ -1,4 +1,4 @@
--- The invariant: those before i were found to fit, and the claims from i on fit, where all do. The measure is the
+-- The invariant: the dollars before i were found to fit, and those from i on fit, where all do. The measure is the
 -- claims left. Assumes nothing.
 use mathlib.Core.Path.{_≡_, refl, sym, ap, _∙_}
 use mathlib.Core.Bool.{Bool, _&&_, and-assoc, and-true}
@@ -7,13 +7,14 @@ use Prim.Native.Nat.{ℕ, _+_, _-_, _≤_}
 use native.Mathlib.Omega.{arith}
 use borrow.Author.Needs.{needs}
 use lib.ListN.{length, getD, drop, drop-of-length-le}
-use Rattle.plan.specs.Claim.{claimFits, claimsFit}
+use Rattle.plan.specs.Field.{fits, allFit}
+use Rattle.plan.specs.Claim.{dollarsWidth}
 use Rattle.plan.proofs.Rests.{rest-more}
 use Rattle.writing.proofs.fitting.claims_fit.Statement.{statement}
 use Rattle.writing.proofs.fitting.claims_fit.Tie as tie
 
 abbrev Inv-loop : tie.InvT-loop
-Inv-loop claims fit₀ i₀ fit i = (i ≤ length claims) × ((fit && claimsFit (drop i claims)) ≡ claimsFit claims)
+Inv-loop claims fit₀ i₀ fit i = (i ≤ length claims) × ((fit && allFit dollarsWidth (drop i claims)) ≡ allFit dollarsWidth claims)
 
 abbrev μ-loop : tie.MeasureT-loop
 μ-loop claims fit₀ i₀ fit i = length claims - i
@@ -24,14 +25,14 @@ given c = c .before .before .args .claims .now
 loop-holds : tie.Need-loop-holds Inv-loop μ-loop
 loop-holds c = (omega arith, refl)
 
-mul-claim-fits : tie.Need-mul-claim-fits Inv-loop μ-loop
-mul-claim-fits c = search needs
+mul-dollars-fit : tie.Need-mul-dollars-fit Inv-loop μ-loop
+mul-dollars-fit c = search needs
 
-shared-slice-read-claim-fits : tie.Need-shared-slice-read-claim-fits Inv-loop μ-loop
-shared-slice-read-claim-fits c = search needs
+shared-slice-read-dollars-fit : tie.Need-shared-slice-read-dollars-fit Inv-loop μ-loop
+shared-slice-read-dollars-fit c = search needs
 
-claim-fits-requires : tie.Need-claim-fits-requires Inv-loop μ-loop
-claim-fits-requires c κs = search needs
+dollars-fit-requires : tie.Need-dollars-fit-requires Inv-loop μ-loop
+dollars-fit-requires c κs = search needs
 
 add-i : tie.Need-add-i Inv-loop μ-loop
 add-i c = search needs
@@ -44,11 +45,11 @@ loop-again c =
     let i = c .before .before in
     let l = i .before .loop in
     let claims = given (i .before) in
-    let rest : Bool = claimsFit (drop (l .i + 1) claims) in (
+    let rest : Bool = allFit dollarsWidth (drop (l .i + 1) claims) in (
       omega arith,
-      ap (λ (x : Bool). (l .fit && x) && rest) (c .claim-fits .ensures)
-          ∙ and-assoc (l .fit) (claimFits (getD claims (l .i) 0)) rest
-          ∙ ap (λ (xs : List ℕ). l .fit && claimsFit xs) (sym (rest-more claims (l .i) (i .loop-test .taken)))
+      ap (λ (x : Bool). (l .fit && x) && rest) (c .dollars-fit .ensures)
+          ∙ and-assoc (l .fit) (fits dollarsWidth (getD claims (l .i) 0)) rest
+          ∙ ap (λ (xs : List ℕ). l .fit && allFit dollarsWidth xs) (sym (rest-more claims (l .i) (i .loop-test .taken)))
           ∙ l .inv .1,
     )
 
@@ -56,7 +57,7 @@ returns : tie.Need-returns Inv-loop μ-loop
 returns c =
     let l = c .before .loop in
     sym (and-true (l .fit))
-    ∙ ap (λ (xs : List ℕ). l .fit && claimsFit xs) (sym (drop-of-length-le (given (c .before)) (c .loop-test .left)))
+    ∙ ap (λ (xs : List ℕ). l .fit && allFit dollarsWidth xs) (sym (drop-of-length-le (given (c .before)) (c .loop-test .left)))
     ∙ l .inv .1
 
 pub claims-fit-spec : {M : Type 1} → statement M
@@ -66,9 +67,9 @@ claims-fit-spec =
     Inv-loop
     μ-loop
     loop-holds
-    mul-claim-fits
-    shared-slice-read-claim-fits
-    claim-fits-requires
+    mul-dollars-fit
+    shared-slice-read-dollars-fit
+    dollars-fit-requires
     add-i
     loop-less
     loop-again
