@@ -7,10 +7,11 @@ use lib.IntN.{ℤ, pos}
 use lib.ListN.{length}
 use Rattle.plan.specs.Demand3.{Demand3}
 use Rattle.plan.specs.Calls.{Answer, refused, given, giving, numberAfter, bufferAfter, Rated, rate, Demand3After, Tabled, table}
-use Rattle.plan.specs.Calls.{Group, read, write}
+use Rattle.plan.specs.File.{Group}
+use Rattle.plan.specs.Calls.{write}
 use Rattle.plan.proofs.Answers.{Gave, giving-refused, giving-given}
 use Rattle.group.specs.Values.{headerIs}
-use Rattle.reading.specs.Reading.{RisksAndHeader, risksAndHeader, ReadSays}
+use Rattle.reading.specs.Reading.{valuesGiven, Buffers, readWith, ReadSays}
 use Rattle.writing.specs.Writer.{lengthIs, WriteSays}
 use Rattle.reading.specs.declared.ReadValues as reading
 use Rattle.reading.specs.declared.GroupRead.the-variants as reads
@@ -98,27 +99,26 @@ module _ (s : List ℕ) (r : ℕ) where
 
 -- ---- Read
 
-module _ (s oldCounts oldClaims counts claims : List ℕ) where
-  abbrev was-read : Answer Group
-  was-read = read s (length oldCounts) (length oldClaims)
-
-  pub read-refused : (k : ℕ) → ReadSays s oldCounts oldClaims (reads.Refused k) counts claims
-      → ReadExported s oldCounts oldClaims (refusal k) counts claims
+module _ (s : List ℕ) (old new : Buffers) where
+  pub read-refused : (k : ℕ) → ReadSays s old (reads.Refused k) new → ReadExported s old (refusal k) new
   read-refused k x = record {
-    group-is = sym (ap retroGroup (giving-refused risksAndHeader was-read (x .answer)));
+    group-is = sym (ap retroGroup (giving-refused valuesGiven (readWith s old) (x .answer)));
     counts-are = x .counts-after;
     claims-are = x .claims-after;
+    joined-are = x .joined-after;
   }
 
-  pub read-given : (v : reading.ReadValues) → ReadSays s oldCounts oldClaims (reads.Given v) counts claims
-      → ReadExported s oldCounts oldClaims (accepted (v .risks) (headerIs (v .header))) counts claims
+  pub read-given : (v : reading.ReadValues) → ReadSays s old (reads.Given v) new
+      → ReadExported s old (accepted (v .edition) (v .risks) (headerIs (v .header))) new
   read-given v x =
-      let gave = giving-given risksAndHeader was-read (x .answer) in
+      let gave = giving-given valuesGiven (readWith s old) (x .answer) in
       record {
         group-is =
-            (λ i. accepted (sym (gave .part) i .risks) (sym (gave .part) i .header)) ∙ sym (ap retroGroup (gave .is));
+            (λ i. accepted (sym (gave .part) i .edition) (sym (gave .part) i .risks) (sym (gave .part) i .header))
+            ∙ sym (ap retroGroup (gave .is));
         counts-are = x .counts-after;
         claims-are = x .claims-after;
+        joined-are = x .joined-after;
       }
 
 -- ---- Write

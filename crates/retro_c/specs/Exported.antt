@@ -5,9 +5,11 @@ use Prim.Native.Nat.{ℕ}
 use lib.IntN.{ℤ, pos}
 use lib.ListN.{length}
 use Rattle.plan.specs.Header as plan
-use Rattle.plan.specs.Calls.{Answer, refused, given, giving, numberAfter, Rated, rate, rateBuffer, Tabled, table, Group, read, readCounts}
-use Rattle.plan.specs.Calls.{readClaims, write, writeBuffer, writeLength, bufferAfter, premiumBytes}
+use Rattle.plan.specs.File.{Group}
+use Rattle.plan.specs.Calls.{Answer, refused, given, giving, numberAfter, Rated, rate, rateBuffer, Tabled, table, readCounts, readClaims}
+use Rattle.plan.specs.Calls.{readJoined, write, writeBuffer, writeLength, bufferAfter, premiumBytes}
 use Rattle.plan.specs.Comparison.{Comparison, NumbersGiven}
+use Rattle.reading.specs.Reading.{Buffers, readWith}
 use Rattle.retro_c.specs.declared.RetroGroup.{RetroGroup}
 
 -- 0 where a call has a result, else the number of the first No
@@ -45,7 +47,7 @@ pub record TableExported (s : List ℕ) (r code charge charge′ savings savings
   pub charge-is : charge′ ≡ numberAfter (λ t. t .charge) (table s r) charge
   pub savings-is : savings′ ≡ numberAfter (λ t. t .savings) (table s r) savings
 
--- the ten numbers of Read's answer: of a refusal, all else 0
+-- the eleven numbers of Read's answer: of a refusal, all else 0
 abbrev pub refusal : ℕ → RetroGroup
 refusal k = record {
   refused = k;
@@ -58,11 +60,12 @@ refusal k = record {
   «mark_kind» = 0;
   «maximum_mark» = 0;
   «minimum_mark» = 0;
+  edition = 0;
 }
 
--- of n and the header values
-abbrev pub accepted : ℕ → plan.Header → RetroGroup
-accepted n h = record {
+-- of the edition, n and the header values
+abbrev pub accepted : ℕ → ℕ → plan.Header → RetroGroup
+accepted edition n h = record {
   refused = 0;
   risks = n;
   «loss_limit» = h .lossLimit;
@@ -73,17 +76,19 @@ accepted n h = record {
   «mark_kind» = h .markKind;
   «maximum_mark» = h .maximumMark;
   «minimum_mark» = h .minimumMark;
+  edition = edition;
 }
 
 abbrev pub retroGroup : Answer Group → RetroGroup
 retroGroup (refused k) = refusal k
-retroGroup (given g) = accepted (length (g .counts)) (g .header)
+retroGroup (given g) = accepted (g .edition) (length (g .counts)) (g .header)
 
--- a call of retro_read on the file s with buffers that held `oldCounts` and `oldClaims`
-pub record ReadExported (s oldCounts oldClaims : List ℕ) (r : RetroGroup) (counts claims : List ℕ) : Type 0 where
-  pub group-is : r ≡ retroGroup (read s (length oldCounts) (length oldClaims))
-  pub counts-are : counts ≡ readCounts s oldCounts oldClaims
-  pub claims-are : claims ≡ readClaims s oldCounts oldClaims
+-- a call of retro_read on the file s with buffers that held `old`, and what they hold after it
+pub record ReadExported (s : List ℕ) (old : Buffers) (r : RetroGroup) (new : Buffers) : Type 0 where
+  pub group-is : r ≡ retroGroup (readWith s old)
+  pub counts-are : new .counts ≡ readCounts s (old .counts) (old .claims) (old .joined)
+  pub claims-are : new .claims ≡ readClaims s (old .counts) (old .claims) (old .joined)
+  pub joined-are : new .joined ≡ readJoined s (old .counts) (old .claims) (old .joined)
 
 -- a call of retro_write with the values g, a buffer that held `old` and a lent length
 pub record WriteExported (g : Group) (old : List ℕ) (code oldSize newSize : ℕ) (new : List ℕ) : Type 0 where

@@ -3,6 +3,7 @@
 ghost use mathlib.Core.Path.{_≡_};
 ghost use lib.ListN.{length};
 ghost use Rattle.plan.specs.Calls.{rate, Demand3After};
+ghost use Rattle.reading.specs.Reading.{buffers};
 ghost use Rattle.writing.specs.Writer.{givenGroup};
 ghost use Rattle.plan.specs.Comparison as plan;
 ghost use Rattle.plan.specs.Comparison.{BesideAfter};
@@ -18,7 +19,7 @@ use reading::GroupRead;
 use tables::Tabled;
 use writing::writer::Written;
 
-// Read's answer: 0 or the refusal, n, and the header values; where it is a refusal all else is 0.
+// Read's answer: 0 or the refusal, n, the header values and the edition; where it is a refusal all else is 0.
 #[repr(C)]
 pub struct RetroGroup {
     pub refused: u32,
@@ -31,6 +32,7 @@ pub struct RetroGroup {
     pub mark_kind: u32,
     pub maximum_mark: u32,
     pub minimum_mark: u32,
+    pub edition: u32,
 }
 
 // Rate: 0 and n, M, Q, the sum billed and each premium; or the number of the first question that failed.
@@ -89,15 +91,20 @@ pub extern "C" fn retro_table(
     }
 }
 
-// Read: the header, the counts and the claims; or the number of the first question that failed.
+// Read: the header and the edition, the counts, the claims and their bits; or the number of the first question that failed.
 #[no_mangle]
-pub extern "C" fn retro_read(file: &[u8], counts: &mut [u8], claims: &mut [u32]) -> RetroGroup
+pub extern "C" fn retro_read(
+    file: &[u8],
+    counts: &mut [u8],
+    claims: &mut [u32],
+    joined: &mut [u8],
+) -> RetroGroup
     ensures { λ r. ⌜
-        ReadExported (now (file .entry)) (now (counts .entry)) (now (claims .entry)) r
-        (now (counts .exit)) (now (claims .exit))
+        ReadExported (now (file .entry)) (buffers (now (counts .entry)) (now (claims .entry)) (now (joined .entry))) r
+        (buffers (now (counts .exit)) (now (claims .exit)) (now (joined .exit)))
         ⌝ }
 {
-    match reading::read(file, counts, claims) {
+    match reading::read(file, counts, claims, joined) {
         GroupRead::Refused(k) => RetroGroup {
             refused: k,
             risks: 0,
@@ -109,6 +116,7 @@ pub extern "C" fn retro_read(file: &[u8], counts: &mut [u8], claims: &mut [u32])
             mark_kind: 0,
             maximum_mark: 0,
             minimum_mark: 0,
+            edition: 0,
         },
         GroupRead::Given(g) => {
             let v = g.header;
@@ -123,6 +131,7 @@ pub extern "C" fn retro_read(file: &[u8], counts: &mut [u8], claims: &mut [u32])
                 mark_kind: v.mark_kind,
                 maximum_mark: v.maximum_mark,
                 minimum_mark: v.minimum_mark,
+                edition: g.edition,
             }
         }
     }
@@ -131,18 +140,20 @@ pub extern "C" fn retro_read(file: &[u8], counts: &mut [u8], claims: &mut [u32])
 // Write: 0, the file's length and its bytes; or the number of the first question that failed.
 #[no_mangle]
 pub extern "C" fn retro_write(
+    edition: u32,
     header: Header,
     counts: &[u8],
     claims: &[u32],
+    joined: &[u8],
     file: &mut [u8],
     size: &mut usize,
 ) -> u32
     ensures { λ code. ⌜
-        WriteExported (givenGroup header (now (counts .entry)) (now (claims .entry))) (now (file .entry)) code
-        (now (size .entry)) (now (size .exit)) (now (file .exit))
+        WriteExported (givenGroup edition header (now (counts .entry)) (now (claims .entry)) (now (joined .entry)))
+        (now (file .entry)) code (now (size .entry)) (now (size .exit)) (now (file .exit))
         ⌝ }
 {
-    match writing::writer::write(header, counts, claims, file) {
+    match writing::writer::write(edition, header, counts, claims, joined, file) {
         Written::Refused(k) => k,
         Written::Length(n) => {
             *size = n;

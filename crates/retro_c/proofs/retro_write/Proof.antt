@@ -23,11 +23,11 @@ same-length c = search needs
 returns : tie.Need-returns
 returns c =
     let r = c .before .before .before .before .before in
-    let a = r .before .before .before .before .before .args in
-    let g = givenGroup (a .header) (a .counts .now) (a .claims .now) in
+    let a = r .before .before .before .before .before .before .args in
+    let g = givenGroup (a .edition) (a .header) (a .counts .now) (a .claims .now) (a .joined .now) in
     let e : r .write .result ≡ Refused (c .before .k .given .0 .0) = cc in
     write-refused g (a .file .now) _ _ (a .size .now)
-    (subst (λ (y : Written). WriteSays g (a .file .now) y (r .write .last .1 .1 .1 .0)) e (r .write .ensures))
+    (subst (λ (y : Written). WriteSays g (a .file .now) y (r .write .last .1 .1 .1 .1 .1 .0)) e (r .write .ensures))
 
 same-length-2 : tie.Need-same-length-2
 same-length-2 c = search needs
@@ -35,12 +35,12 @@ same-length-2 c = search needs
 returns-2 : tie.Need-returns-2
 returns-2 c =
     let r = c .before .before .before .before .before in
-    let a = r .before .before .before .before .before .args in
-    let g = givenGroup (a .header) (a .counts .now) (a .claims .now) in
+    let a = r .before .before .before .before .before .before .args in
+    let g = givenGroup (a .edition) (a .header) (a .counts .now) (a .claims .now) (a .joined .now) in
     let n = c .before .n .given .0 .0 in
     let e : r .write .result ≡ Length n = cc in
     write-given g (a .file .now) _ n (a .size .now)
-    (subst (λ (y : Written). WriteSays g (a .file .now) y (r .write .last .1 .1 .1 .0)) e (r .write .ensures))
+    (subst (λ (y : Written). WriteSays g (a .file .now) y (r .write .last .1 .1 .1 .1 .1 .0)) e (r .write .ensures))
 
 pub retro-write-spec : {M : Type 1} → statement M
 retro-write-spec =
