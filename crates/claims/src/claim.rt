@@ -107,7 +107,13 @@ pub fn limited_ahead(word: u64, most: u32) -> u32
 }
 
 // Puts a claim, its bit and then its dollars, and gives the place after it.
-pub fn put_claim(out: &mut [u8], place: BitPlace, edition: u32, joined: u32, dollars: u32) -> BitPlace
+pub fn put_claim(
+    out: &mut [u8],
+    place: BitPlace,
+    edition: u32,
+    joined: u32,
+    dollars: u32,
+) -> BitPlace
     requires { ⌜ Space (now out) (place .at) (slotsOfClaim edition (claim joined dollars)) ⌝ }
     ensures { λ r. ⌜ Wrote (now (out .entry)) (place .at) (slotsOfClaim edition (claim joined dollars))
         (now (out .exit)) (r .at) ⌝ }

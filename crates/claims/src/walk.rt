@@ -258,13 +258,7 @@ fn joined_claims(file: &[u8], place: BitPlace, count: u32, limit: u32) -> ClaimR
 // ---- either
 
 // The claims, as many as `count`, from a place on, by the loop of their edition.
-pub fn claims_at(
-    file: &[u8],
-    place: BitPlace,
-    count: u32,
-    edition: u32,
-    limit: u32,
-) -> ClaimRun
+pub fn claims_at(file: &[u8], place: BitPlace, count: u32, edition: u32, limit: u32) -> ClaimRun
     requires { ⌜ RunReach (place .at) count × (edition ≡ editionOf (now file)) ⌝ }
     ensures { λ r. ⌜ ClaimsAre (now (file .entry)) (place .at) count limit r ⌝ }
 {

@@ -443,9 +443,46 @@ AccidentsCase =
 
 accidentsCase : AccidentsCase
 unfolding bytesOf number bit field claimWidth claimAt pastClaim slotsOfClaim countAt firstClaim limitedOf LG LH SX SS ratable basicPremium excessCharge nearest billRounding billWith ratedOf rate totalWith taxedExpensesAndLosses table read write compare
-accidentsCase =
-    (refl, refl, refl, refl, refl, refl, refl, refl, refl, refl, refl, refl, refl, refl, refl, refl, refl, refl, refl,
-    refl, refl, refl, refl, refl, refl, refl, refl, refl, refl, refl, refl, refl, refl, refl, refl, refl, refl, refl)
+accidentsCase = (
+  refl,
+  refl,
+  refl,
+  refl,
+  refl,
+  refl,
+  refl,
+  refl,
+  refl,
+  refl,
+  refl,
+  refl,
+  refl,
+  refl,
+  refl,
+  refl,
+  refl,
+  refl,
+  refl,
+  refl,
+  refl,
+  refl,
+  refl,
+  refl,
+  refl,
+  refl,
+  refl,
+  refl,
+  refl,
+  refl,
+  refl,
+  refl,
+  refl,
+  refl,
+  refl,
+  refl,
+  refl,
+  refl,
+)
 
 -- all of them: 'gathered as one checked list'
 pub provedCases : FourCase × TableCase × OtherCases × GuaranteedCase × MarksCase × SumsCase × AccidentsCase

@@ -1,5 +1,5 @@
-// Document 01's worked figures and the cases that it wants by program only, run on the calls: a line for each. What the lines
-// must be is in the file `stdout`, worked out from documents 01 and 001.
+// Document 01's worked figures and the cases that it wants by program only, and document 02's scaffold, run on the calls: a line for
+// each. What the lines must be is in the file `stdout`, worked out from documents 01, 02 and 001.
 use group::Header;
 use libc::STDOUT_FILENO;
 use rating::rates::Rated;
@@ -62,10 +62,24 @@ fn print_numbers(s: &[u32]) {
     }
 }
 
-// Write: the length, or the refusal; the length, 0 where it is refused.
+// Write in edition 1, with no bit set, of at most 16 claims.
 fn show_write(label: &[u8], h: Header, counts: &[u8], claims: &[u32], out: &mut [u8]) -> usize {
+    let none = [0u8; 16];
+    show_edition(label, 1, h, counts, claims, first(&none, claims.len()), out)
+}
+
+// Write: the length, or the refusal; the length, 0 where it is refused.
+fn show_edition(
+    label: &[u8],
+    edition: u32,
+    h: Header,
+    counts: &[u8],
+    claims: &[u32],
+    joined: &[u8],
+    out: &mut [u8],
+) -> usize {
     print(label);
-    match write(h, counts, claims, out) {
+    match write(edition, h, counts, claims, joined, out) {
         Written::Refused(k) => {
             print_refused(k);
             0
@@ -126,16 +140,19 @@ fn print_header(n: u32, v: Header) {
     print(b" ");
 }
 
-// Read: n and the header values, then the counts, then the claims.
-fn show_read(label: &[u8], file: &[u8], counts: &mut [u8], claims: &mut [u32]) {
+// Read: n and the header values, then the counts, then the claims, then the edition and the bits.
+fn show_read(label: &[u8], file: &[u8], counts: &mut [u8], claims: &mut [u32], joined: &mut [u8]) {
     print(label);
-    match read(file, counts, claims) {
+    match read(file, counts, claims, joined) {
         GroupRead::Refused(k) => print_refused(k),
         GroupRead::Given(g) => {
             print_header(g.risks, g.header);
             print_line(counts);
             print_numbers(claims);
-            print(b"\n");
+            print(b"\n edition");
+            print_number(g.edition);
+            print(b" ");
+            print_line(joined);
         }
     }
 }
@@ -144,7 +161,8 @@ fn show_read(label: &[u8], file: &[u8], counts: &mut [u8], claims: &mut [u32]) {
 fn read_four(file: &[u8]) {
     let mut counts = [9u8; 5];
     let mut claims = [9u32; 7];
-    show_read(b"four", file, &mut counts, &mut claims);
+    let mut joined = [9u8; 7];
+    show_read(b"four", file, &mut counts, &mut claims, &mut joined);
 }
 
 // Rated with 16 and with 15 bytes; 15 and 33 bytes of it, and it with a zero byte added.
@@ -278,9 +296,61 @@ fn refused_values() {
     print_line(&out);
 }
 
+// Two risks, the first with claims of 3,000 and 4,000: in one accident and in two; and what Write refuses of such values.
+fn scaffold() {
+    let h = Header {
+        loss_limit: 5000,
+        standard_premium: 10000,
+        expense: 2000,
+        conversion: 1100,
+        tax: 10000,
+        mark_kind: 0,
+        maximum_mark: 900,
+        minimum_mark: 200,
+    };
+    let mut out = [0u8; 23];
+    let counts = [2u8, 0];
+    let claims = [3000u32, 4000];
+    show_edition(b"two accidents", 2, h, &counts, &claims, &[0, 0], &mut out);
+    rate_scaffold(b"two accidents", &out);
+    show_edition(b"one accident", 2, h, &counts, &claims, &[0, 1], &mut out);
+    print_line(&out);
+    rate_scaffold(b"one accident", &out);
+    read_scaffold(&out);
+    show_edition(b"edition 3", 3, h, &counts, &claims, &[0, 0], &mut out);
+    show_edition(
+        b"a 1 in edition 1",
+        1,
+        h,
+        &counts,
+        &claims,
+        &[0, 1],
+        &mut out,
+    );
+    show_edition(b"an entry of 2", 2, h, &counts, &claims, &[0, 2], &mut out);
+    show_edition(b"one bit for two", 2, h, &counts, &claims, &[0], &mut out);
+    show_edition(b"a leading 1", 2, h, &[1, 1], &claims, &[0, 1], &mut out);
+}
+
+fn rate_scaffold(label: &[u8], file: &[u8]) {
+    let mut premiums = [0u8; 8];
+    show_rate(label, file, &mut premiums);
+}
+
+// The scaffold read back, with room for one bit and for both.
+fn read_scaffold(file: &[u8]) {
+    let mut counts = [9u8; 2];
+    let mut claims = [9u32; 2];
+    let mut joined = [9u8; 2];
+    let mut short = [9u8; 1];
+    show_read(b"one accident", file, &mut counts, &mut claims, &mut short);
+    show_read(b"one accident", file, &mut counts, &mut claims, &mut joined);
+}
+
 fn main() {
     four_risks();
     three_risks();
     ten_risks();
     refused_values();
+    scaffold();
 }

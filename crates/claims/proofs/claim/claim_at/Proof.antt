@@ -17,8 +17,7 @@ claim-width-requires c κs = search needs
 take-within-requires : tie.Need-take-within-requires
 take-within-requires c κs =
     let e = c .before .before in
-    let w = width-le (e .args .edition) in
-    (
+    let w = width-le (e .args .edition) in (
       record {
         narrow = omega (arith, c .claim-width .ensures, w);
         next = omega (arith, c .claim-width .ensures, w, e .pre .0 .inside);
