@@ -1,13 +1,14 @@
 //! A second rater: retrospective premiums balanced on a group's own Table M.
 //!
-//! It follows document 01, with job 1 of document 02 for guaranteed cost and job
-//! 2 for the order of the marks, and serves as the outside figure against which
-//! a production rater is compared. To share no mistake with such a rater it goes
-//! a deliberately different way: the whole file is expanded to one string of
-//! bits, every field is taken as a 128-bit whole number, all arithmetic is in
-//! `i128` and `u128`, every risk has its own `Vec` of claims, and each step of
-//! the documents is one plain function with the document's letter or words in
-//! its comment. Speed and memory are of no concern.
+//! It follows document 01, with job 1 of document 02 for guaranteed cost, job 2
+//! for the order of the marks and job 4 for accidents, and serves as the outside
+//! figure against which a production rater is compared. To share no mistake with
+//! such a rater it goes a deliberately different way: the whole file is expanded
+//! to one string of bits, every field is taken as a 128-bit whole number, all
+//! arithmetic is in `i128` and `u128`, every risk has its own `Vec` of claims,
+//! which are sorted into a `Vec` for each accident before anything is summed,
+//! and each step of the documents is one plain function with the document's
+//! letter or words in its comment. Speed and memory are of no concern.
 //!
 //! Money is whole dollars. The calls answer `Err(k)` where the first question
 //! answered No is number `k` of the documents.
@@ -18,8 +19,8 @@
 pub const MOST_RISKS: usize = 255;
 /// Largest number of claims of one risk, from the width of a count.
 pub const MOST_CLAIMS_PER_RISK: usize = 63;
-/// Length in bytes of the largest file.
-pub const LARGEST_FILE: usize = 40_370;
+/// Length in bytes of the largest file, which is of edition 2.
+pub const LARGEST_FILE: usize = 42_378;
 
 // Widths of the fields in bits, in file order.
 const EDITION_WIDTH: usize = 4;
@@ -33,12 +34,15 @@ const MARK_WIDTH: usize = 13;
 const RISKS_WIDTH: usize = 8;
 const SPARE_WIDTH: usize = 1;
 const COUNT_WIDTH: usize = 6;
+// In edition 2 alone: before each claim, "1 when the claim belongs to the same
+// accident as the claim before it in that risk".
+const JOINED_WIDTH: usize = 1;
 const CLAIM_WIDTH: usize = 20;
 
 /// The header values of a group file, loss limit to minimum mark.
 #[derive(Clone, Copy, Debug, PartialEq, Eq)]
 pub struct Header {
-    /// Loss limit per claim in dollars; 0 means no limit.
+    /// Loss limit per accident in dollars; 0 means no limit.
     pub loss_limit: u32,
     /// Standard premium P in dollars.
     pub standard_premium: u32,
@@ -56,13 +60,17 @@ pub struct Header {
     pub minimum_mark: u32,
 }
 
-/// What Read gives: the header, the claim count of each risk, and all claims
-/// in file order.
+/// What Read gives: the edition, the header, the claim count of each risk, and
+/// all claims in file order with the bit of each.
 #[derive(Clone, Debug, PartialEq, Eq)]
 pub struct Group {
+    pub edition: u32,
     pub header: Header,
     pub counts: Vec<u8>,
     pub claims: Vec<u32>,
+    /// 1 where the claim belongs to the accident of the claim before it. All 0
+    /// in edition 1.
+    pub joined: Vec<u8>,
 }
 
 /// One risk as rated.
@@ -190,11 +198,20 @@ struct Fields {
     end: usize,
 }
 
-/// A file that passed questions 1 to 9 and 18.
+/// A claim as it stands in the file.
+#[derive(Clone, Copy)]
+struct Claim {
+    /// Whether its bit says that it belongs to the same accident as the claim
+    /// before it in that risk. In edition 1 there is no bit, and none does.
+    joined: bool,
+    dollars: u128,
+}
+
+/// A file that passed questions 1 to 9, 18 and 19.
 struct Opened {
     fields: Fields,
     /// The claims of each risk.
-    risks: Vec<Vec<u128>>,
+    risks: Vec<Vec<Claim>>,
 }
 
 /// Takes the fields of the header one after another.
@@ -232,9 +249,10 @@ fn take_header(bits: &[bool]) -> Fields {
     }
 }
 
-/// Takes the claims of `n` risks from `place` on. Gives them and the bit after
-/// the last count or claim, which may lie past the end of the file.
-fn take_risks(bits: &[bool], start: usize, n: u128) -> (Vec<Vec<u128>>, usize) {
+/// Takes the claims of `n` risks from `start` on: 20 bits a claim in edition 1,
+/// and one bit before them in edition 2. Gives them and the bit after the last
+/// count or claim, which may lie past the end of the file.
+fn take_risks(bits: &[bool], start: usize, n: u128, edition: u128) -> (Vec<Vec<Claim>>, usize) {
     let mut place = start;
     let mut risks = Vec::new();
     for _ in 0..n {
@@ -242,12 +260,33 @@ fn take_risks(bits: &[bool], start: usize, n: u128) -> (Vec<Vec<u128>>, usize) {
         place += COUNT_WIDTH;
         let mut claims = Vec::new();
         for _ in 0..count {
-            claims.push(take(bits, place, CLAIM_WIDTH));
+            let mut joined = false;
+            if edition == 2 {
+                joined = take(bits, place, JOINED_WIDTH) == 1;
+                place += JOINED_WIDTH;
+            }
+            let dollars = take(bits, place, CLAIM_WIDTH);
             place += CLAIM_WIDTH;
+            claims.push(Claim { joined, dollars });
         }
         risks.push(claims);
     }
     (risks, place)
+}
+
+/// Question 2 of the edition: "Edition 2 passes question 2", and edition 1 "is
+/// still read".
+fn edition_passes(edition: u128) -> bool {
+    edition == 1 || edition == 2
+}
+
+/// Question 19, whose No is "a risk's first claim has the bit set": whether it
+/// has not. A risk without claims has no first claim.
+fn first_bit_passes(bits: &[bool]) -> bool {
+    match bits.first() {
+        Some(&first) => !first,
+        None => true,
+    }
 }
 
 /// Question 18, whose No is "the minimum mark exceeds the maximum mark":
@@ -288,15 +327,15 @@ fn ask_values(
     Ok(())
 }
 
-/// Questions 1 to 9, with 18 between 6 and 7, which every call on a file asks
-/// first.
+/// Questions 1 to 9, with 18 between 6 and 7, then 19, which every call on a
+/// file asks first.
 fn open(file: &[u8]) -> Result<Opened, u32> {
     if file.len() < 16 {
         return Err(1);
     }
     let bits = bits_of(file);
     let fields = take_header(&bits);
-    if fields.edition != 1 || fields.spare != 0 {
+    if !edition_passes(fields.edition) || fields.spare != 0 {
         return Err(2);
     }
     ask_values(
@@ -307,12 +346,18 @@ fn open(file: &[u8]) -> Result<Opened, u32> {
         fields.minimum_mark,
         fields.risks,
     )?;
-    let (risks, end) = take_risks(&bits, fields.end, fields.risks);
+    let (risks, end) = take_risks(&bits, fields.end, fields.risks, fields.edition);
     if file.len() != bytes_for(end) {
         return Err(8);
     }
     if bits[end..].iter().any(|&bit| bit) {
         return Err(9);
+    }
+    for claims in &risks {
+        let joined: Vec<bool> = claims.iter().map(|claim| claim.joined).collect();
+        if !first_bit_passes(&joined) {
+            return Err(19);
+        }
     }
     Ok(Opened { fields, risks })
 }
@@ -322,20 +367,39 @@ fn open(file: &[u8]) -> Result<Opened, u32> {
 // ---------------------------------------------------------------------------
 
 /// Step 1, L: the sum of a risk's claims.
-fn total_losses(claims: &[u128]) -> u128 {
-    claims.iter().sum()
+fn total_losses(claims: &[Claim]) -> u128 {
+    claims.iter().map(|claim| claim.dollars).sum()
 }
 
-/// Step 1, A: the sum of the lesser of each claim and the loss limit. Without
-/// a limit it is L.
-fn limited_losses(claims: &[u128], loss_limit: u128) -> u128 {
+/// The accidents of a risk, each with the dollars of its claims: a claim with
+/// bit 0 opens one, a claim with bit 1 belongs to the last. A first claim has
+/// passed question 19.
+fn accidents(claims: &[Claim]) -> Vec<Vec<u128>> {
+    let mut accidents: Vec<Vec<u128>> = Vec::new();
+    for claim in claims {
+        if !claim.joined {
+            accidents.push(Vec::new());
+        }
+        let last = accidents
+            .last_mut()
+            .expect("a first claim opens an accident");
+        last.push(claim.dollars);
+    }
+    accidents
+}
+
+/// Step 1, A: "The limit applies to the accident's sum", so it is the sum of
+/// the lesser of each accident's sum and the loss limit. Without a limit it is
+/// L.
+fn limited_losses(claims: &[Claim], loss_limit: u128) -> u128 {
     if loss_limit == 0 {
         return total_losses(claims);
     }
     let mut sum = 0;
-    for &claim in claims {
-        sum += if claim < loss_limit {
-            claim
+    for accident in accidents(claims) {
+        let dollars: u128 = accident.iter().sum();
+        sum += if dollars < loss_limit {
+            dollars
         } else {
             loss_limit
         };
@@ -519,8 +583,8 @@ fn billed_less_guaranteed(billed: u128, guaranteed: u128) -> i128 {
 // The calls
 // ---------------------------------------------------------------------------
 
-/// Rate: questions 1 to 13, with 18 between 6 and 7. `room` is the output
-/// buffer's length in bytes; each premium needs four.
+/// Rate: questions 1 to 13, with 18 between 6 and 7 and 19 between 9 and 10.
+/// `room` is the output buffer's length in bytes; each premium needs four.
 pub fn rate(file: &[u8], room: usize) -> Result<Rated, u32> {
     let Opened { fields, risks } = open(file)?;
     let n = fields.risks;
@@ -630,8 +694,9 @@ pub fn guaranteed(
     })
 }
 
-/// Table: questions 1 to 10, with 18 between 6 and 7, then 14. Gives the charge
-/// and the savings at the entry ratio `r` in hundredths, both in thousandths.
+/// Table: questions 1 to 10, with 18 between 6 and 7 and 19 between 9 and 10,
+/// then 14. Gives the charge and the savings at the entry ratio `r` in
+/// hundredths, both in thousandths.
 pub fn table(file: &[u8], r: u32) -> Result<(u128, u128), u32> {
     let Opened { fields, risks } = open(file)?;
     let n = fields.risks;
@@ -660,22 +725,31 @@ pub fn table(file: &[u8], r: u32) -> Result<(u128, u128), u32> {
     Ok((charge, savings))
 }
 
-/// Read: questions 1 to 9, with 18 between 6 and 7, then 13. The rooms are the
-/// lengths of the buffers for the claim counts and for the claims, in entries.
-pub fn read(file: &[u8], counts_room: usize, claims_room: usize) -> Result<Group, u32> {
+/// Read: questions 1 to 9, with 18 between 6 and 7, then 19, then 13. The rooms
+/// are the lengths of the buffers for the claim counts, for the claims and for
+/// the bits, in entries; edition 1 too has as many bits as claims.
+pub fn read(
+    file: &[u8],
+    counts_room: usize,
+    claims_room: usize,
+    joined_room: usize,
+) -> Result<Group, u32> {
     let Opened { fields, risks } = open(file)?;
     let mut counts = Vec::new();
     let mut claims = Vec::new();
+    let mut joined = Vec::new();
     for risk in &risks {
         counts.push(risk.len() as u8);
-        for &claim in risk {
-            claims.push(claim as u32);
+        for claim in risk {
+            claims.push(claim.dollars as u32);
+            joined.push(u8::from(claim.joined));
         }
     }
-    if counts_room < counts.len() || claims_room < claims.len() {
+    if counts_room < counts.len() || claims_room < claims.len() || joined_room < joined.len() {
         return Err(13);
     }
     Ok(Group {
+        edition: fields.edition as u32,
         header: Header {
             loss_limit: fields.loss_limit as u32,
             standard_premium: fields.standard_premium as u32,
@@ -688,6 +762,7 @@ pub fn read(file: &[u8], counts_room: usize, claims_room: usize) -> Result<Group
         },
         counts,
         claims,
+        joined,
     })
 }
 
@@ -698,7 +773,7 @@ fn fits(value: u128, width: usize) -> bool {
 
 /// Question 15: n, counts, claims and header values fit their widths, and the
 /// counts add to the number of claims.
-fn all_fit(header: &Header, counts: &[u8], claims: &[u32]) -> bool {
+fn values_fit(header: &Header, counts: &[u8], claims: &[u32]) -> bool {
     let header_fits = fits(header.loss_limit.into(), LOSS_LIMIT_WIDTH)
         && fits(header.standard_premium.into(), STANDARD_PREMIUM_WIDTH)
         && fits(header.expense.into(), EXPENSE_WIDTH)
@@ -714,9 +789,28 @@ fn all_fit(header: &Header, counts: &[u8], claims: &[u32]) -> bool {
     header_fits && n_fits && counts_fit && claims_fit && counted == claims.len() as u128
 }
 
-/// Write: questions 3 to 6, 18, 7, 15 and 13 in this order. Gives the file's
-/// bytes; `room` is the output buffer's length in bytes.
-pub fn write(header: &Header, counts: &[u8], claims: &[u32], room: usize) -> Result<Vec<u8>, u32> {
+/// Question 15 of the bits: "a list not as long as the claims, an entry above 1,
+/// or a 1 given with edition 1 is a No to 15".
+fn bits_fit(edition: u32, claims: &[u32], joined: &[u8]) -> bool {
+    let as_long = joined.len() == claims.len();
+    let none_above_1 = joined.iter().all(|&bit| fits(bit.into(), JOINED_WIDTH));
+    let none_in_edition_1 = edition != 1 || !joined.contains(&1);
+    as_long && none_above_1 && none_in_edition_1
+}
+
+/// Write: question 2 of the edition, then 3 to 6, 18, 7, 15, 19 and 13 in this
+/// order. Gives the file's bytes; `room` is the output buffer's length in bytes.
+pub fn write(
+    edition: u32,
+    header: &Header,
+    counts: &[u8],
+    claims: &[u32],
+    joined: &[u8],
+    room: usize,
+) -> Result<Vec<u8>, u32> {
+    if !edition_passes(edition.into()) {
+        return Err(2);
+    }
     ask_values(
         header.standard_premium.into(),
         header.conversion.into(),
@@ -725,12 +819,21 @@ pub fn write(header: &Header, counts: &[u8], claims: &[u32], room: usize) -> Res
         header.minimum_mark.into(),
         counts.len() as u128,
     )?;
-    if !all_fit(header, counts, claims) {
+    if !values_fit(header, counts, claims) || !bits_fit(edition, claims, joined) {
         return Err(15);
+    }
+    let mut first = 0;
+    for &count in counts {
+        let after = first + usize::from(count);
+        let of_risk: Vec<bool> = joined[first..after].iter().map(|&bit| bit == 1).collect();
+        if !first_bit_passes(&of_risk) {
+            return Err(19);
+        }
+        first = after;
     }
 
     let mut bits = Vec::new();
-    put(&mut bits, 1, EDITION_WIDTH);
+    put(&mut bits, edition.into(), EDITION_WIDTH);
     put(&mut bits, header.loss_limit.into(), LOSS_LIMIT_WIDTH);
     put(
         &mut bits,
@@ -749,8 +852,11 @@ pub fn write(header: &Header, counts: &[u8], claims: &[u32], room: usize) -> Res
     for &count in counts {
         put(&mut bits, count.into(), COUNT_WIDTH);
         let after = first + usize::from(count);
-        for &claim in &claims[first..after] {
-            put(&mut bits, claim.into(), CLAIM_WIDTH);
+        for k in first..after {
+            if edition == 2 {
+                put(&mut bits, joined[k].into(), JOINED_WIDTH);
+            }
+            put(&mut bits, claims[k].into(), CLAIM_WIDTH);
         }
         first = after;
     }

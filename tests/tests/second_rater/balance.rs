@@ -2,7 +2,7 @@
 //! times 10,000,000 × n.
 
 use retro_tests::generator::Random;
-use retro_tests::samples::{rated_groups, Sample, AMPLE};
+use retro_tests::samples::{rated_groups, rated_groups_of_edition_2, Sample, AMPLE};
 use retro_tests::second_rater::{rate, Rated};
 
 /// SL and each K of a group, from its values by steps 1 to 3.
@@ -11,13 +11,13 @@ fn losses(sample: &Sample) -> (i128, Vec<i128>) {
     let n = sample.risks.len() as i128;
     let mut sum_total = 0i128;
     let mut limited = Vec::new();
-    for claims in &sample.risks {
+    for accidents in sample.accidents() {
         let mut sum = 0i128;
-        for &claim in claims {
-            sum_total += i128::from(claim);
+        for accident in accidents {
+            sum_total += i128::from(accident);
             sum += i128::from(match header.loss_limit {
-                0 => claim,
-                limit => claim.min(limit),
+                0 => accident,
+                limit => accident.min(limit.into()),
             });
         }
         limited.push(sum);
@@ -100,7 +100,10 @@ fn check(sample: &Sample, rated: &Rated, random: &mut Random) {
 #[test]
 fn known_groups_balance() {
     let mut random = Random::new(0x5eed_0005);
-    for sample in rated_groups() {
+    for sample in rated_groups()
+        .into_iter()
+        .chain(rated_groups_of_edition_2())
+    {
         let rated = rate(&sample.file(), AMPLE).unwrap();
         check(&sample, &rated, &mut random);
     }
@@ -109,23 +112,29 @@ fn known_groups_balance() {
 #[test]
 fn random_groups_balance() {
     let mut random = Random::new(0x5eed_0006);
-    let mut accepted = 0;
+    let mut accepted = [0; 2];
     let mut refused = [0; 16];
-    for _ in 0..4_000 {
+    let mut cut_off = 0;
+    for _ in 0..6_000 {
         let sample = random.group();
         match rate(&sample.file(), 4 * sample.risks.len()) {
             Ok(rated) => {
                 check(&sample, &rated, &mut random);
-                accepted += 1;
+                accepted[sample.edition() as usize - 1] += 1;
+                cut_off += u32::from(sample.edition() == 2 && rated.excess > 0);
             }
             Err(k) => refused[k as usize] += 1,
         }
     }
-    // Enough groups of each outcome, and no refusal but the two that remain:
-    // marks in order give no No to 11.
-    assert!(accepted > 800, "only {accepted} accepted");
+    // Enough groups of each outcome in either edition, accidents that the limit
+    // cuts among them, and no refusal but the two that remain: marks in order
+    // give no No to 11.
+    for accepted in accepted {
+        assert!(accepted > 800, "only {accepted} accepted");
+    }
+    assert!(cut_off > 300, "only {cut_off} with an accident cut");
     for k in [10, 12] {
         assert!(refused[k] > 50, "refused {k} only {} times", refused[k]);
     }
-    assert_eq!(accepted + refused[10] + refused[12], 4_000);
+    assert_eq!(accepted[0] + accepted[1] + refused[10] + refused[12], 6_000);
 }

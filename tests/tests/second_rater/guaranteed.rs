@@ -2,11 +2,11 @@
 //! 02's job 1, its questions and their order, and generated schedules.
 
 use retro_tests::generator::{
-    set, Random, CONVERSION, EDITION, MINIMUM_MARK, RISKS, STANDARD_PREMIUM, TAX,
+    first_bits, set, Random, CONVERSION, EDITION, MINIMUM_MARK, RISKS, STANDARD_PREMIUM, TAX,
 };
 use retro_tests::samples::{
-    crossed_marks, four_risks, largest, one_claim_of_one, one_risk, rated_groups, schedule, stock,
-    ten_risks, two_risks_of_ten, AMPLE,
+    crossed_marks, four_risks, largest, one_claim_of_one, one_risk, rated_groups,
+    rated_groups_of_edition_2, scaffold, schedule, stock, ten_risks, two_risks_of_ten, AMPLE,
 };
 use retro_tests::second_rater::{guaranteed, rate, Guaranteed, Layer};
 
@@ -307,11 +307,14 @@ fn files_refused_by_rate() -> Vec<(u32, Vec<u8>)> {
     longer.push(0);
     let mut filled = one_claim_of_one(3).file();
     *filled.last_mut().unwrap() |= 1;
+    let mut joined = scaffold().file();
+    let bits = first_bits(&joined);
+    set(&mut joined, bits[0], 1);
     let mut no_losses = four_risks();
     no_losses.risks = vec![vec![0]; 4];
     vec![
         (1, four[..15].to_vec()),
-        (2, with(EDITION, 2)),
+        (2, with(EDITION, 3)),
         (3, with(STANDARD_PREMIUM, 0)),
         (4, with(CONVERSION, 999)),
         (5, with(TAX, 9_999)),
@@ -322,6 +325,7 @@ fn files_refused_by_rate() -> Vec<(u32, Vec<u8>)> {
         (7, with(RISKS, 0)),
         (8, longer),
         (9, filled),
+        (19, joined),
         (10, no_losses.file()),
         (12, two_risks_of_ten(2_000).file()),
     ]
@@ -598,7 +602,10 @@ fn differences_add_to_billed_less_guaranteed_costs() {
 
 #[test]
 fn rated_is_what_rate_gives() {
-    for sample in rated_groups() {
+    for sample in rated_groups()
+        .into_iter()
+        .chain(rated_groups_of_edition_2())
+    {
         let file = sample.file();
         let given = with_ample_room(&file, &stock()).unwrap();
         assert_eq!(Ok(given.rated), rate(&file, AMPLE));
@@ -624,7 +631,7 @@ fn rated_is_what_rate_gives() {
 #[test]
 fn first_no_of_generated_calls() {
     let mut random = Random::new(0x5eed_0205);
-    let mut results = [0; 19];
+    let mut results = [0; 20];
     for _ in 0..2_500 {
         let file = random.file();
         let mut layers = any_schedule(&mut random, 32);
@@ -656,9 +663,9 @@ fn first_no_of_generated_calls() {
         assert_eq!(given.err().unwrap_or(0), expected);
         results[expected as usize] += 1;
     }
-    // Each result that the schedule and the buffers decide on, and 12 and 18, which come before
+    // Each result that the schedule and the buffers decide on, and 12, 18 and 19, which come before
     // them.
-    for k in [0, 12, 13, 16, 17, 18] {
+    for k in [0, 12, 13, 16, 17, 18, 19] {
         assert!(results[k] > 30, "{k} only {} times", results[k]);
     }
     // Those that are not asked, and 11, which no file fails that passed 18.

@@ -5,18 +5,23 @@ use retro_tests::generator::{
     set, Field, Random, CONVERSION, EDITION, LOSS_LIMIT, MARK_KIND, MAXIMUM_MARK, MINIMUM_MARK,
     RISKS, SPARE, STANDARD_PREMIUM, TAX,
 };
-use retro_tests::samples::{four_risks, one_claim_of_one, two_risks_of_ten, Sample, AMPLE};
-use retro_tests::second_rater::{rate, read, table, write, Header};
+use retro_tests::samples::{four_risks, one_claim_of_one, two_risks_of_ten, Sample, Values, AMPLE};
+use retro_tests::second_rater::{rate, read, table, Header};
 
 /// The same number from the three calls on a file.
 fn all_refuse(file: &[u8], k: u32) {
     assert_eq!(rate(file, AMPLE), Err(k));
     assert_eq!(table(file, 100), Err(k));
-    assert_eq!(read(file, AMPLE, AMPLE), Err(k));
+    assert_eq!(read(file, AMPLE, AMPLE, AMPLE), Err(k));
 }
 
 fn write_sample(sample: &Sample, room: usize) -> Result<Vec<u8>, u32> {
-    write(&sample.header, &sample.counts(), &sample.claims(), room)
+    sample.values().written(room)
+}
+
+/// Write in edition 1, with a 0 for each claim.
+fn write(header: &Header, counts: &[u8], claims: &[u32], room: usize) -> Result<Vec<u8>, u32> {
+    Values::of_edition_1(header, counts, claims).written(room)
 }
 
 #[test]
@@ -29,14 +34,16 @@ fn fifteen_bytes_give_1() {
 
 #[test]
 fn edition_and_spare_bit_give_2() {
-    for edition in [0, 2, 3, 9, 15] {
-        let mut file = four_risks().file();
-        set(&mut file, EDITION, edition);
+    for sample in [four_risks(), four_risks().in_edition_2(&[(1, 1)])] {
+        let mut file = sample.file();
+        for edition in (0..=15).filter(|edition| ![1, 2].contains(edition)) {
+            set(&mut file, EDITION, edition);
+            all_refuse(&file, 2);
+        }
+        let mut file = sample.file();
+        set(&mut file, SPARE, 1);
         all_refuse(&file, 2);
     }
-    let mut file = four_risks().file();
-    set(&mut file, SPARE, 1);
-    all_refuse(&file, 2);
 }
 
 #[test]
@@ -56,7 +63,7 @@ fn conversion_factor_gives_4() {
     for conversion in [1_000, 2_000] {
         let mut file = four_risks().file();
         set(&mut file, CONVERSION, conversion);
-        assert!(read(&file, AMPLE, AMPLE).is_ok());
+        assert!(read(&file, AMPLE, AMPLE, AMPLE).is_ok());
     }
 }
 
@@ -86,7 +93,7 @@ fn marks_give_6() {
     let mut file = four_risks().file();
     set(&mut file, MAXIMUM_MARK, 6_000);
     set(&mut file, MINIMUM_MARK, 6_000);
-    assert!(read(&file, AMPLE, AMPLE).is_ok());
+    assert!(read(&file, AMPLE, AMPLE, AMPLE).is_ok());
 }
 
 #[test]
@@ -113,7 +120,7 @@ fn minimum_mark_above_maximum_mark_gives_18() {
             set(&mut file, MAXIMUM_MARK, maximum_mark);
             set(&mut file, MINIMUM_MARK, minimum_mark);
             if passes {
-                assert!(read(&file, AMPLE, AMPLE).is_ok());
+                assert!(read(&file, AMPLE, AMPLE, AMPLE).is_ok());
                 assert_eq!(table(&file, 100), Ok((321, 321)));
                 assert!(matches!(rate(&file, AMPLE), Ok(_) | Err(12)));
             } else {
@@ -197,7 +204,7 @@ fn fill_bits_give_9() {
     // The four-risk file has no fill bit: its last bit is the last claim's.
     let mut file = four_risks().file();
     *file.last_mut().unwrap() |= 1;
-    let group = read(&file, AMPLE, AMPLE).unwrap();
+    let group = read(&file, AMPLE, AMPLE, AMPLE).unwrap();
     assert_eq!(group.claims.last(), Some(&2_001));
 }
 
@@ -212,7 +219,7 @@ fn no_losses_give_10() {
     let file = sample.file();
     assert_eq!(rate(&file, AMPLE), Err(10));
     assert_eq!(table(&file, 100), Err(10));
-    assert!(read(&file, AMPLE, AMPLE).is_ok());
+    assert!(read(&file, AMPLE, AMPLE, AMPLE).is_ok());
 }
 
 #[test]
@@ -220,7 +227,7 @@ fn negative_basic_gives_12_in_rate_alone() {
     let file = two_risks_of_ten(2_000).file();
     assert_eq!(rate(&file, AMPLE), Err(12));
     assert_eq!(table(&file, 50), Ok((500, 0)));
-    assert!(read(&file, AMPLE, AMPLE).is_ok());
+    assert!(read(&file, AMPLE, AMPLE, AMPLE).is_ok());
 }
 
 #[test]
@@ -246,10 +253,15 @@ fn short_buffers_give_13() {
     assert_eq!(rate(&file, 0), Err(13));
     assert!(rate(&file, 16).is_ok());
 
-    assert_eq!(read(&file, 3, 6), Err(13));
-    assert_eq!(read(&file, 4, 5), Err(13));
-    assert_eq!(read(&file, 0, 0), Err(13));
-    assert!(read(&file, 4, 6).is_ok());
+    // Edition 1 too asks for the room of the bits.
+    for file in [&file, &sample.in_edition_2(&[]).file()] {
+        assert_eq!(read(file, 3, 6, 6), Err(13));
+        assert_eq!(read(file, 4, 5, 6), Err(13));
+        assert_eq!(read(file, 4, 6, 5), Err(13));
+        assert_eq!(read(file, 4, 6, 0), Err(13));
+        assert_eq!(read(file, 0, 0, 0), Err(13));
+        assert!(read(file, 4, 6, 6).is_ok());
+    }
 
     assert_eq!(write_sample(&sample, 33), Err(13));
     assert_eq!(write_sample(&sample, 0), Err(13));
@@ -430,9 +442,9 @@ fn rate_asks_10_to_13_in_order() {
 #[test]
 fn read_asks_9_before_13() {
     let mut file = one_claim_of_one(3).file();
-    assert_eq!(read(&file, 0, 0), Err(13));
+    assert_eq!(read(&file, 0, 0, 0), Err(13));
     *file.last_mut().unwrap() |= 1;
-    assert_eq!(read(&file, 0, 0), Err(9));
+    assert_eq!(read(&file, 0, 0, 0), Err(9));
 }
 
 #[test]
@@ -454,14 +466,14 @@ fn long_files_are_handled() {
     all_refuse(&file, 8);
 }
 
-/// Questions 1 to 9 and 18 have the same answer in the three calls on a file.
-/// Gives whether the file passes them.
-fn passes_1_to_9_and_18(file: &[u8]) -> bool {
+/// Questions 1 to 9, 18 and 19 have the same answer in the three calls on a
+/// file. Gives whether the file passes them.
+fn passes_1_to_9_18_and_19(file: &[u8]) -> bool {
     let rated = rate(file, AMPLE);
     let tabled = table(file, 100);
-    match read(file, AMPLE, AMPLE) {
+    match read(file, AMPLE, AMPLE, AMPLE) {
         Err(k) => {
-            assert!((1..=9).contains(&k) || k == 18);
+            assert!((1..=9).contains(&k) || k == 18 || k == 19);
             assert_eq!(rated, Err(k));
             assert_eq!(tabled, Err(k));
             false
@@ -478,17 +490,20 @@ fn passes_1_to_9_and_18(file: &[u8]) -> bool {
 #[test]
 fn any_bytes_are_handled() {
     let mut random = Random::new(0x5eed_0002);
-    let header = four_risks().file()[..16].to_vec();
+    let samples = [four_risks(), four_risks().in_edition_2(&[])];
+    let headers = samples.map(|sample| sample.file()[..16].to_vec());
     for _ in 0..10_000 {
-        // Random bytes of any length, half of them under a good header.
+        // Random bytes of any length, half of them under a good header of either
+        // edition.
         let length = random.between(0, 80) as usize;
         let mut file: Vec<u8> = (0..length).map(|_| random.word() as u8).collect();
         if random.between(0, 1) == 0 {
-            for (byte, &good) in file.iter_mut().zip(&header) {
+            let header = &headers[random.within(0, 1)];
+            for (byte, &good) in file.iter_mut().zip(header) {
                 *byte = good;
             }
         }
-        passes_1_to_9_and_18(&file);
+        passes_1_to_9_18_and_19(&file);
     }
 }
 
@@ -501,7 +516,7 @@ fn files_with_one_bit_turned_are_handled() {
         let mut file = random.group().file();
         let bit = random.between(0, 8 * file.len() as u32 - 1) as usize;
         file[bit / 8] ^= 0x80 >> (bit % 8);
-        if passes_1_to_9_and_18(&file) {
+        if passes_1_to_9_18_and_19(&file) {
             passed += 1;
         } else {
             refused += 1;

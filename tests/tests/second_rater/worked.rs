@@ -6,7 +6,7 @@ use retro_tests::samples::{
     crossed_marks, four_risks, largest, one_claim_of_one, stock, ten_risks, two_risks_of_ten,
     Sample, AMPLE, FOUR_RISKS_PRINTED,
 };
-use retro_tests::second_rater::{guaranteed, print_rated, rate, read, table, write, Header, Line};
+use retro_tests::second_rater::{guaranteed, print_rated, rate, read, table, Header, Line};
 
 fn billed(sample: &Sample) -> Vec<u128> {
     rate(&sample.file(), AMPLE).unwrap().premiums
@@ -118,10 +118,9 @@ fn crossed_marks_are_refused_whatever_their_dollars() {
         let file = sample.file_of_any_marks();
         assert_eq!(rate(&file, AMPLE), Err(18));
         assert_eq!(table(&file, 100), Err(18));
-        assert_eq!(read(&file, AMPLE, AMPLE), Err(18));
+        assert_eq!(read(&file, AMPLE, AMPLE, AMPLE), Err(18));
         assert_eq!(guaranteed(&file, &stock(), AMPLE, AMPLE), Err(18));
-        let (counts, claims) = (sample.counts(), sample.claims());
-        assert_eq!(write(&sample.header, &counts, &claims, AMPLE), Err(18));
+        assert_eq!(sample.values().written(AMPLE), Err(18));
     }
     // With equal marks the P 1 group is rated as document 01 had it.
     let rated = rate(&crossed_marks(1).with_marks(900, 900).file(), AMPLE).unwrap();
@@ -142,6 +141,7 @@ fn claims_at_and_above_the_limit_count_the_limit() {
             ..four_risks().header
         },
         risks: vec![vec![5_000], vec![5_001], vec![5_000, 5_001], vec![4_999]],
+        joined: None,
     };
     let rated = rate(&sample.file(), AMPLE).unwrap();
     let limited: Vec<u128> = rated.lines.iter().map(|line| line.limited).collect();
@@ -207,6 +207,7 @@ fn entry_ratio_is_on_limited_losses() {
             ..one_claim_of_one(2).header
         },
         risks: vec![vec![30, 30], vec![]],
+        joined: None,
     };
     let file = sample.file();
     let rated = rate(&file, AMPLE).unwrap();
