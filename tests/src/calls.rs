@@ -19,8 +19,8 @@ pub struct Header {
     pub minimum_mark: u32,
 }
 
-/// What Read answers: 0 or the refusal, n, and the header values; all else is 0 where it is a
-/// refusal.
+/// What Read answers: 0 or the refusal, n, the header values and the edition; all else is 0 where
+/// it is a refusal.
 #[repr(C)]
 #[derive(Clone, Copy, Debug, Default, PartialEq, Eq)]
 pub struct Group {
@@ -34,11 +34,12 @@ pub struct Group {
     pub mark_kind: u32,
     pub maximum_mark: u32,
     pub minimum_mark: u32,
+    pub edition: u32,
 }
 
 impl Group {
     /// The answer with these values.
-    pub fn given(risks: u32, header: Header) -> Group {
+    pub fn given(edition: u32, risks: u32, header: Header) -> Group {
         Group {
             refused: 0,
             risks,
@@ -50,6 +51,7 @@ impl Group {
             mark_kind: header.mark_kind,
             maximum_mark: header.maximum_mark,
             minimum_mark: header.minimum_mark,
+            edition,
         }
     }
 
@@ -79,6 +81,21 @@ impl Group {
 impl From<second_rater::Header> for Header {
     fn from(header: second_rater::Header) -> Header {
         Header {
+            loss_limit: header.loss_limit,
+            standard_premium: header.standard_premium,
+            expense: header.expense,
+            conversion: header.conversion,
+            tax: header.tax,
+            mark_kind: header.mark_kind,
+            maximum_mark: header.maximum_mark,
+            minimum_mark: header.minimum_mark,
+        }
+    }
+}
+
+impl From<Header> for second_rater::Header {
+    fn from(header: Header) -> second_rater::Header {
+        second_rater::Header {
             loss_limit: header.loss_limit,
             standard_premium: header.standard_premium,
             expense: header.expense,
@@ -215,13 +232,18 @@ pub mod raw {
             counts_len: usize,
             claims: *mut u32,
             claims_len: usize,
+            joined: *mut u8,
+            joined_len: usize,
         ) -> Group;
         pub fn retro_write(
+            edition: u32,
             header: Header,
             counts: *const u8,
             counts_len: usize,
             claims: *const u32,
             claims_len: usize,
+            joined: *const u8,
+            joined_len: usize,
             file: *mut u8,
             file_len: usize,
             length: *mut usize,
@@ -289,8 +311,8 @@ pub fn table(file: &[u8], entry_ratio: u32, charge: &mut u32, savings: &mut u32)
     unsafe { raw::retro_table(file.as_ptr(), file.len(), entry_ratio, charge, savings) }
 }
 
-/// Read: the header, with the counts and the claims in the buffers.
-pub fn read(file: &[u8], counts: &mut [u8], claims: &mut [u32]) -> Group {
+/// Read: the edition and the header, with the counts, the claims and their bits in the buffers.
+pub fn read(file: &[u8], counts: &mut [u8], claims: &mut [u32], joined: &mut [u8]) -> Group {
     // SAFETY: as in `rate`.
     unsafe {
         raw::retro_read(
@@ -300,26 +322,33 @@ pub fn read(file: &[u8], counts: &mut [u8], claims: &mut [u32]) -> Group {
             counts.len(),
             claims.as_mut_ptr(),
             claims.len(),
+            joined.as_mut_ptr(),
+            joined.len(),
         )
     }
 }
 
 /// Write: 0, or the number of the first question that the values or the buffer fail.
 pub fn write(
+    edition: u32,
     header: Header,
     counts: &[u8],
     claims: &[u32],
+    joined: &[u8],
     file: &mut [u8],
     length: &mut usize,
 ) -> u32 {
     // SAFETY: as in `rate`.
     unsafe {
         raw::retro_write(
+            edition,
             header,
             counts.as_ptr(),
             counts.len(),
             claims.as_ptr(),
             claims.len(),
+            joined.as_ptr(),
+            joined.len(),
             file.as_mut_ptr(),
             file.len(),
             length,

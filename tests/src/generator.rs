@@ -1,7 +1,7 @@
 //! Generated groups, damaged files, values for Write and schedules, with the corners of every field
 //! more often than chance has them.
 
-use crate::samples::{Sample, AMPLE};
+use crate::samples::{accidents, ranges, Sample, Values, AMPLE};
 use crate::second_rater::{self, Header, Layer};
 
 /// The largest claim, loss limit and expense provision.
@@ -39,7 +39,7 @@ pub const SPARE: Field = after(RISKS, 1);
 /// The header's length in bytes.
 pub const HEADER: usize = 16;
 
-/// Puts a value into a field of the file's header, whatever the questions say to it.
+/// Puts a value into a field of the file, whatever the questions say to it.
 pub fn set(file: &mut [u8], field: Field, value: u32) {
     for k in 0..field.width {
         let mask = 0x80 >> ((field.at + k) % 8);
@@ -58,24 +58,54 @@ pub fn get(file: &[u8], field: Field) -> u32 {
     (field.at..field.at + field.width).fold(0, |value, at| 2 * value + u32::from(bit(at)))
 }
 
-/// The length in bits of a group's file without the fill bits.
-pub fn bits(risks: usize, claims: usize) -> usize {
-    128 + 6 * risks + 20 * claims
-}
-
-/// Values for Write, sound or not.
-#[derive(Clone, Debug)]
-pub struct Values {
-    pub header: Header,
-    pub counts: Vec<u8>,
-    pub claims: Vec<u32>,
-}
-
-impl Values {
-    /// The length in bytes of the file of these values, were they all to fit.
-    pub fn length(&self) -> usize {
-        bits(self.counts.len(), self.claims.len()).div_ceil(8)
+/// The width in bits of a claim, in edition 2 with its bit. Any other edition is taken for 1.
+pub fn claim_width(edition: u32) -> usize {
+    match edition {
+        2 => 21,
+        _ => 20,
     }
+}
+
+/// The length in bits of a group's file without the fill bits.
+pub fn bits(edition: u32, risks: usize, claims: usize) -> usize {
+    128 + 6 * risks + claim_width(edition) * claims
+}
+
+/// A risk of a file by its bytes.
+#[derive(Clone, Copy, Debug)]
+pub struct RiskInFile {
+    /// The number of its claims.
+    pub claims: usize,
+    /// The place in bits of the first of them, which in edition 2 begins with its bit.
+    pub at: usize,
+}
+
+/// The risks that a file has by its bytes, whatever the questions say to it.
+pub fn risks_in(file: &[u8]) -> Vec<RiskInFile> {
+    let width = claim_width(get(file, EDITION));
+    let mut at = 8 * HEADER;
+    let mut risks = Vec::new();
+    for _ in 0..get(file, RISKS) {
+        let claims = get(file, Field { at, width: 6 }) as usize;
+        at += 6;
+        risks.push(RiskInFile { claims, at });
+        at += width * claims;
+    }
+    risks
+}
+
+/// The bits of the first claims that lie in a file of edition 2, in file order.
+pub fn first_bits(file: &[u8]) -> Vec<Field> {
+    let risks = match get(file, EDITION) {
+        2 => risks_in(file),
+        _ => Vec::new(),
+    };
+    let with_claims = risks.into_iter().filter(|risk| risk.claims > 0);
+    let bits = with_claims.map(|risk| Field {
+        at: risk.at,
+        width: 1,
+    });
+    bits.filter(|bit| bit.at < 8 * file.len()).collect()
 }
 
 /// What Guaranteed is given, sound or not.
@@ -127,6 +157,13 @@ fn thousandths(schedule: &[Layer; 4], standard_premium: u32) -> u64 {
         .sum()
 }
 
+/// Gives values as many claims and bits as their counts add to.
+fn follow_the_counts(values: &mut Values) {
+    let sum = values.counts.iter().map(|&count| usize::from(count)).sum();
+    values.claims.resize(sum, 1);
+    values.joined.resize(sum, 0);
+}
+
 /// A splitmix generator of 64 bits.
 pub struct Random(u64);
 
@@ -164,6 +201,18 @@ impl Random {
         choices[self.within(0, choices.len() - 1)]
     }
 
+    /// The first of these, the last, any one, or all.
+    pub fn some_of<'a, T>(&mut self, choices: &'a [T]) -> &'a [T] {
+        let last = choices.len() - 1;
+        let any = self.within(0, last);
+        match self.between(0, 6) {
+            0 => choices,
+            1 | 2 => &choices[..1],
+            3 | 4 => &choices[last..],
+            _ => &choices[any..=any],
+        }
+    }
+
     /// A number below 2 to the power `width`, small ones as likely as large.
     pub fn of_any_size(&mut self, width: u32) -> u32 {
         let used = self.between(0, width);
@@ -187,15 +236,27 @@ impl Random {
 
     // ---- groups
 
-    /// A group that passes questions 1 to 9 and 18.
+    /// A group that passes questions 1 to 9, 18 and 19, of either edition.
     pub fn group(&mut self) -> Sample {
         let mut risks = self.risks();
-        let loss_limit = self.loss_limit(&risks);
+        let in_edition_2 = self.one_in(2);
+        let joined = match in_edition_2 {
+            true => self.joined(&risks),
+            false => risks.iter().map(|risk| vec![0; risk.len()]).collect(),
+        };
+        let loss_limit = self.loss_limit(&risks, &joined);
         if loss_limit > 0 && self.one_in(4) {
             self.claims_at_the_limit(&mut risks, loss_limit);
         }
+        if loss_limit > 0 && in_edition_2 && self.one_in(3) {
+            self.accidents_at_the_limit(&mut risks, &joined, loss_limit);
+        }
         let header = self.header(loss_limit, &risks);
-        let mut sample = Sample { header, risks };
+        let mut sample = Sample {
+            header,
+            risks,
+            joined: in_edition_2.then_some(joined),
+        };
         if self.one_in(6) {
             self.bring_basic_near_0(&mut sample);
         }
@@ -221,6 +282,7 @@ impl Random {
             1 => (0, 1),
             2 if n <= 8 => (63, 63),
             3 => (1, 1),
+            4..=6 => (self.between(0, 2), self.between(2, 8)),
             _ => (0, self.of_any_size(6).max(1)),
         };
         self.risks_with(n, fewest, most, claim_width)
@@ -243,15 +305,41 @@ impl Random {
         risks
     }
 
-    /// No limit, a limit at a corner, or one at or beside a claim.
-    fn loss_limit(&mut self, risks: &[Vec<u32>]) -> u32 {
+    /// The bits of each risk's claims: none set, all but the first, accidents of equal lengths,
+    /// long ones, or any.
+    fn joined(&mut self, risks: &[Vec<u32>]) -> Vec<Vec<u8>> {
+        let kind = self.between(0, 7);
+        let length = self.one_of(&[2, 2, 3, 3, 4, 7]);
+        let mut joins = |claim: usize| match kind {
+            _ if claim == 0 => 0,
+            0 => 0,
+            1 => 1,
+            2 | 3 => u8::from(!claim.is_multiple_of(length)),
+            4 => u8::from(!self.one_in(10)),
+            5 => u8::from(self.one_in(4)),
+            _ => u8::from(self.one_in(2)),
+        };
+        let mut of_risk = |risk: &Vec<u32>| (0..risk.len()).map(&mut joins).collect();
+        risks.iter().map(&mut of_risk).collect()
+    }
+
+    /// No limit, a limit at a corner, or one at or beside a claim or an accident's sum.
+    fn loss_limit(&mut self, risks: &[Vec<u32>], joined: &[Vec<u8>]) -> u32 {
         let claims = risks.concat();
         match self.between(0, 8) {
             0..=2 => 0,
             3 => self.one_of(&[1, LARGEST]),
-            4 | 5 if !claims.is_empty() => {
-                let claim = self.one_of(&claims);
-                self.one_of(&[claim, claim.saturating_sub(1), (claim + 1).min(LARGEST)])
+            kind @ (4 | 5) if !claims.is_empty() => {
+                let dollars = match kind {
+                    4 => self.one_of(&claims).into(),
+                    _ => self.one_of(&accidents(risks, joined).concat()),
+                };
+                let dollars = dollars.min(LARGEST.into()) as u32;
+                self.one_of(&[
+                    dollars,
+                    dollars.saturating_sub(1),
+                    (dollars + 1).min(LARGEST),
+                ])
             }
             _ => self.of_any_size(20),
         }
@@ -264,6 +352,36 @@ impl Random {
                 *claim = self.one_of(&[loss_limit, loss_limit - 1, (loss_limit + 1).min(LARGEST)]);
             }
         }
+    }
+
+    /// Some accidents of two claims or more come to the limit, or to the dollar below or above it,
+    /// and some to 0.
+    fn accidents_at_the_limit(
+        &mut self,
+        risks: &mut [Vec<u32>],
+        joined: &[Vec<u8>],
+        loss_limit: u32,
+    ) {
+        for (claims, joined) in risks.iter_mut().zip(joined) {
+            for accident in ranges(joined) {
+                if accident.len() >= 2 && self.one_in(2) {
+                    let sums = [loss_limit - 1, loss_limit, loss_limit, loss_limit + 1, 0];
+                    let sum = self.one_of(&sums);
+                    self.divide(sum, &mut claims[accident]);
+                }
+            }
+        }
+    }
+
+    /// Divides a sum of at most 2 to the power 20 into the claims of an accident.
+    fn divide(&mut self, sum: u32, claims: &mut [u32]) {
+        let mut left = sum;
+        let last = claims.len() - 1;
+        for claim in &mut claims[..last] {
+            *claim = self.between(left.saturating_sub(LARGEST), left.min(LARGEST));
+            left -= *claim;
+        }
+        claims[last] = left;
     }
 
     /// Header values that pass questions 2 to 6 and 18.
@@ -363,13 +481,16 @@ impl Random {
 
     // ---- files
 
-    /// A file: of a sound group, or with its marks crossed, or with one or two kinds of damage done
-    /// to it, or both.
+    /// A file: of a sound group, or with its marks crossed, or with first claims joined, or with
+    /// one or two kinds of damage done to it, or several of these.
     pub fn file(&mut self) -> Vec<u8> {
         let sample = self.group();
         let mut file = sample.file();
         if self.one_in(5) {
             self.cross_the_marks(&mut file);
+        }
+        if self.one_in(5) {
+            self.join_first_claims(&mut file);
         }
         if self.one_in(2) {
             self.damage(&mut file, &sample);
@@ -389,6 +510,18 @@ impl Random {
         if self.one_in(6) {
             set(file, STANDARD_PREMIUM, 1);
             set(file, MARK_KIND, 0);
+        }
+    }
+
+    /// In a file of edition 2, sets the bit of the first claim of a risk: of the first that has
+    /// claims, of the last, of any, or of all.
+    fn join_first_claims(&mut self, file: &mut [u8]) {
+        let bits = first_bits(file);
+        if bits.is_empty() {
+            return;
+        }
+        for &bit in self.some_of(&bits) {
+            set(file, bit, 1);
         }
     }
 
@@ -434,21 +567,22 @@ impl Random {
 
     /// Sets one of the bits after the last field, where there is one.
     fn set_a_fill_bit(&mut self, file: &mut [u8], sample: &Sample) {
-        let end = bits(sample.risks.len(), sample.claims().len());
+        let end = bits(sample.edition(), sample.risks.len(), sample.claims().len());
         if file.len() == end.div_ceil(8) && !end.is_multiple_of(8) {
             let bit = self.within(end, 8 * file.len() - 1);
             file[bit / 8] |= 0x80 >> (bit % 8);
         }
     }
 
-    /// Gives one field of the header a value that fails a question or is another number of risks.
+    /// Gives one field of the header a value that fails a question, or is the other edition or
+    /// another number of risks.
     fn spoil_a_field(&mut self, file: &mut [u8]) {
         if file.len() < HEADER {
             return;
         }
         let any = self.word() as u32;
-        match self.between(0, 9) {
-            0 => set(file, EDITION, self.one_of(&[0, 2, 3, 9, 15])),
+        match self.between(0, 10) {
+            0 => set(file, EDITION, self.one_of(&[0, 3, 4, 9, 10, 15])),
             1 => set(file, SPARE, 1),
             2 => set(file, STANDARD_PREMIUM, 0),
             3 => set(file, CONVERSION, self.one_of(&[0, 999, 2_001, 2_047])),
@@ -456,7 +590,8 @@ impl Random {
             5 => set(file, MAXIMUM_MARK, self.one_of(&[6_001, 8_191])),
             6 => set(file, MINIMUM_MARK, self.one_of(&[6_001, 8_191])),
             7 | 8 => set(file, RISKS, 0),
-            _ => set(file, RISKS, self.one_of(&[1, 254, 255, any])),
+            9 => set(file, RISKS, self.one_of(&[1, 254, 255, any])),
+            _ => set(file, EDITION, get(file, EDITION) ^ 3),
         }
     }
 
@@ -617,11 +752,7 @@ impl Random {
             let (maximum_mark, minimum_mark) = self.crossed_marks();
             sample = sample.with_marks(maximum_mark, minimum_mark);
         }
-        let mut values = Values {
-            header: sample.header,
-            counts: sample.counts(),
-            claims: sample.claims(),
-        };
+        let mut values = sample.values();
         if !self.one_in(3) {
             self.spoil(&mut values);
             if self.one_in(4) {
@@ -632,12 +763,77 @@ impl Random {
     }
 
     fn spoil(&mut self, values: &mut Values) {
-        match self.between(0, 5) {
-            0 | 1 => self.spoil_the_header(&mut values.header),
-            2 => self.spoil_the_number_of_risks(values),
-            3 => self.spoil_a_count(values),
-            4 => self.spoil_a_claim(&mut values.claims),
-            _ => self.spoil_the_sum(values),
+        match self.between(0, 9) {
+            0..=2 => self.spoil_the_header(&mut values.header),
+            3 => self.spoil_the_number_of_risks(values),
+            4 => self.spoil_a_count(values),
+            5 => self.spoil_a_claim(&mut values.claims),
+            6 => self.spoil_the_sum(values),
+            7 => self.spoil_the_edition(&mut values.edition),
+            8 => self.spoil_the_bits(values),
+            _ => self.spoil_a_first_bit(values),
+        }
+    }
+
+    /// An edition that is neither 1 nor 2, some with a sound one in the field's own bits.
+    fn spoil_the_edition(&mut self, edition: &mut u32) {
+        let sound = *edition;
+        let any = self.between(3, u32::MAX);
+        *edition = self.one_of(&[
+            0,
+            3,
+            4,
+            15,
+            16,
+            sound | 1 << 4,
+            sound | 1 << 8,
+            sound | 1 << 16,
+            sound | 1 << 31,
+            u32::MAX,
+            any,
+        ]);
+    }
+
+    /// A list of bits that is not as long as the claims, an entry above 1, or a 1 with edition 1.
+    fn spoil_the_bits(&mut self, values: &mut Values) {
+        let last = match values.joined.len() {
+            0 => return values.joined.push(self.one_of(&[0, 1])),
+            len => len - 1,
+        };
+        let bit = self.within(0, last);
+        match self.between(0, 6) {
+            0 => values.joined.truncate(last),
+            1 => values.joined.truncate(bit),
+            2 => {
+                let len = last + 1 + self.within(1, 9);
+                let added = self.one_of(&[0, 0, 1, 2]);
+                values.joined.resize(len, added);
+            }
+            3 | 4 => values.joined[bit] |= self.one_of(&[2, 2, 4, 128, 254]),
+            _ => {
+                values.edition = 1;
+                values.joined[bit] = 1;
+            }
+        }
+    }
+
+    /// Values of edition 2 with the bit of the first claim of a risk set: of the first that has
+    /// claims, of the last, of any, or of all.
+    fn spoil_a_first_bit(&mut self, values: &mut Values) {
+        let mut at = 0;
+        let mut places = Vec::new();
+        for &count in &values.counts {
+            if count > 0 && at < values.joined.len() {
+                places.push(at);
+            }
+            at += usize::from(count);
+        }
+        if places.is_empty() {
+            return;
+        }
+        values.edition = 2;
+        for &place in self.some_of(&places) {
+            values.joined[place] |= 1;
         }
     }
 
@@ -674,8 +870,7 @@ impl Random {
         let n = self.one_of(&[0, 0, 256, 257, 300, 511, 512]);
         values.counts.resize(n, 0);
         if self.one_in(2) {
-            let sum = values.counts.iter().map(|&count| usize::from(count)).sum();
-            values.claims.resize(sum, 1);
+            follow_the_counts(values);
         }
     }
 
@@ -688,8 +883,7 @@ impl Random {
         let kept = values.counts[risk] & 63;
         values.counts[risk] = self.one_of(&[64, 64 + kept, 128 + kept, 192 + kept, 255]);
         if !self.one_in(3) {
-            let sum = values.counts.iter().map(|&count| usize::from(count)).sum();
-            values.claims.resize(sum, 1);
+            follow_the_counts(values);
         }
     }
 
@@ -704,7 +898,7 @@ impl Random {
         claims[k] = self.one_of(&[1 << 20, kept | 1 << 20, kept | 1 << 31, u32::MAX, any]);
     }
 
-    /// Another number of claims than the counts add to.
+    /// Another number of claims than the counts add to, mostly with as many bits.
     fn spoil_the_sum(&mut self, values: &mut Values) {
         match self.between(0, 2) {
             0 => values.claims.push(1),
@@ -716,6 +910,9 @@ impl Random {
                 let risk = self.within(0, values.counts.len() - 1);
                 values.counts[risk] ^= 1;
             }
+        }
+        if !self.one_in(4) {
+            values.joined.resize(values.claims.len(), 0);
         }
     }
 }

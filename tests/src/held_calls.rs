@@ -5,8 +5,10 @@
 //! against the one after it. What is lent is preset, so that a part that must keep its contents is
 //! seen to keep them.
 
-use crate::calls::{self, Group, Header, Lent, Numbers};
+use crate::calls::{self, Group, Lent, Numbers};
+use crate::generator::{get, EDITION};
 use crate::guard::{Guarded, PLACES};
+use crate::samples::Values;
 use crate::second_rater::{self, Guaranteed, Layer, Rated};
 use std::fmt;
 
@@ -31,6 +33,11 @@ const NUMBERS: Numbers = Numbers {
 /// Byte k of a buffer before a call.
 fn preset_byte(k: usize) -> u8 {
     (k as u8).wrapping_mul(151).wrapping_add(0xa5)
+}
+
+/// Bit k of a buffer before a call: neither 0 nor 1.
+fn preset_bit(k: usize) -> u8 {
+    preset_byte(k) | 2
 }
 
 /// Claim k of a buffer before a call.
@@ -62,62 +69,97 @@ impl Call {
     /// rounding down keeps the order of the marks.
     pub fn answers(self) -> &'static [u32] {
         match self {
-            Call::Rate => &[0, 1, 2, 3, 4, 5, 6, 18, 7, 8, 9, 10, 12, 13],
-            Call::Table => &[0, 1, 2, 3, 4, 5, 6, 18, 7, 8, 9, 10, 14],
-            Call::Read => &[0, 1, 2, 3, 4, 5, 6, 18, 7, 8, 9, 13],
-            Call::Write => &[0, 3, 4, 5, 6, 18, 7, 15, 13],
-            Call::Guaranteed => &[0, 1, 2, 3, 4, 5, 6, 18, 7, 8, 9, 10, 12, 13, 16, 17],
+            Call::Rate => &[0, 1, 2, 3, 4, 5, 6, 18, 7, 8, 9, 19, 10, 12, 13],
+            Call::Table => &[0, 1, 2, 3, 4, 5, 6, 18, 7, 8, 9, 19, 10, 14],
+            Call::Read => &[0, 1, 2, 3, 4, 5, 6, 18, 7, 8, 9, 19, 13],
+            Call::Write => &[0, 2, 3, 4, 5, 6, 18, 7, 15, 19, 13],
+            Call::Guaranteed => &[0, 1, 2, 3, 4, 5, 6, 18, 7, 8, 9, 19, 10, 12, 13, 16, 17],
         }
+    }
+
+    /// Whether the call can give this answer to a file or to values of edition 1 or 2. Edition 1
+    /// has no bits that are set, and Write asks 2 of the edition alone.
+    fn gives(self, edition: usize, answer: u32) -> bool {
+        let never = match answer {
+            19 => edition == 1,
+            2 => self == Call::Write,
+            _ => false,
+        };
+        self.answers().contains(&answer) && !never
     }
 }
 
-/// How often each call gave each answer; 0 is an acceptance.
+/// The editions that pass question 2.
+const EDITIONS: [usize; 2] = [1, 2];
+
+/// How often each call gave each answer, where 0 is an acceptance, to files and values of edition
+/// 1, of edition 2, and of another, which are in the first place.
 #[derive(Clone, Default)]
-pub struct Counts([[u64; 19]; 5]);
+pub struct Counts([[[u64; 20]; 5]; 3]);
 
 impl Counts {
     /// Counts an answer, which must be one that the call can give.
-    fn add(&mut self, call: Call, answer: u32) {
+    fn add(&mut self, call: Call, edition: u32, answer: u32) {
+        let edition = match edition {
+            1 | 2 => edition as usize,
+            _ => 0,
+        };
         assert!(
-            call.answers().contains(&answer),
-            "{call:?} gave {answer}, which it cannot give"
+            match edition {
+                0 => matches!(answer, 1 | 2),
+                _ => call.gives(edition, answer),
+            },
+            "{call:?} gave {answer} in edition {edition}, which it cannot give"
         );
-        self.0[call as usize][answer as usize] += 1;
+        self.0[edition][call as usize][answer as usize] += 1;
     }
 
+    /// How often the call gave the answer to a file or values of any edition.
     pub fn of(&self, call: Call, answer: u32) -> u64 {
-        self.0[call as usize][answer as usize]
+        let times = self.0.iter();
+        times.map(|of| of[call as usize][answer as usize]).sum()
+    }
+
+    /// The same of edition 1 or 2.
+    pub fn of_edition(&self, edition: usize, call: Call, answer: u32) -> u64 {
+        self.0[edition][call as usize][answer as usize]
     }
 
     pub fn merge(&mut self, other: &Counts) {
-        for (row, more) in self.0.iter_mut().zip(&other.0) {
-            for (count, more) in row.iter_mut().zip(more) {
-                *count += more;
-            }
+        let others = other.0.iter().flatten().flatten();
+        for (count, more) in self.0.iter_mut().flatten().flatten().zip(others) {
+            *count += more;
         }
     }
 
-    /// The answers of these calls that occurred fewer times than this.
-    pub fn rarer_than(&self, least: u64, calls: &[Call]) -> Vec<(Call, u32)> {
+    /// The answers of these calls that occurred fewer times than this, in all or in an edition in
+    /// which they can occur; with the edition, or 0 for all.
+    pub fn rarer_than(&self, least: u64, calls: &[Call]) -> Vec<(Call, usize, u32)> {
         let mut rare = Vec::new();
         for &call in calls {
             for &answer in call.answers() {
                 if self.of(call, answer) < least {
-                    rare.push((call, answer));
+                    rare.push((call, 0, answer));
+                }
+                for edition in EDITIONS {
+                    let gives = call.gives(edition, answer);
+                    if gives && self.of_edition(edition, call, answer) < least {
+                        rare.push((call, edition, answer));
+                    }
                 }
             }
         }
         rare
     }
 
-    /// One line an answer, one column for each of these calls; a dash where the call cannot give
-    /// the answer, and no line where none of them can.
+    /// One line an answer, and for each of these calls a column of all, of edition 1 and of edition
+    /// 2; a dash where the call cannot give the answer, and no line where none of them can.
     pub fn lines(&self, calls: &[Call]) -> String {
         let mut lines = format!("{:<10}", "answer");
         for call in calls {
-            lines += &format!("{:>12}", format!("{call:?}"));
+            lines += &format!("{:>12}{:>8}{:>8}", format!("{call:?}"), "ed. 1", "ed. 2");
         }
-        for answer in 0..19 {
+        for answer in 0..20 {
             let gives = |call: &Call| call.answers().contains(&answer);
             if !calls.iter().any(gives) {
                 continue;
@@ -131,6 +173,12 @@ impl Counts {
                     true => format!("{:>12}", self.of(*call, answer)),
                     false => format!("{:>12}", "-"),
                 };
+                for edition in EDITIONS {
+                    lines += &match call.gives(edition, answer) {
+                        true => format!("{:>8}", self.of_edition(edition, *call, answer)),
+                        false => format!("{:>8}", "-"),
+                    };
+                }
             }
         }
         lines
@@ -143,6 +191,7 @@ pub struct HeldCalls {
     premiums: Guarded<u8>,
     counts: Guarded<u8>,
     claims: Guarded<u32>,
+    joined: Guarded<u8>,
     risks: Guarded<u32>,
     amounts: [Guarded<u64>; 3],
     ratios: [Guarded<u32>; 2],
@@ -167,6 +216,7 @@ impl HeldCalls {
             premiums: Guarded::new(1 << 13),
             counts: Guarded::new(1 << 17),
             claims: Guarded::new(1 << 17),
+            joined: Guarded::new(1 << 17),
             risks: Guarded::new(1),
             amounts: [Guarded::new(1), Guarded::new(1), Guarded::new(1)],
             ratios: [Guarded::new(1), Guarded::new(1)],
@@ -212,7 +262,7 @@ impl HeldCalls {
             same(&*buffer, &premiums[..], "buffer", about);
             same(&*lent, file, "file after the call", about);
         }
-        self.given.add(Call::Rate, answer);
+        self.given.add(Call::Rate, get(file, EDITION), answer);
         answer
     }
 
@@ -276,7 +326,7 @@ impl HeldCalls {
             same(&*differences_buffer, &differences[..], "differences", about);
             same(&*lent_file, file, "file after the call", about);
         }
-        self.given.add(Call::Guaranteed, answer);
+        self.given.add(Call::Guaranteed, get(file, EDITION), answer);
         answer
     }
 
@@ -297,99 +347,155 @@ impl HeldCalls {
             same((*charge, *savings), ratios, "charge and savings", about);
             same(&*lent, file, "file after the call", about);
         }
-        self.given.add(Call::Table, answer);
+        self.given.add(Call::Table, get(file, EDITION), answer);
         answer
     }
 
     /// Read of a file into buffers of so many entries.
-    pub fn read(&mut self, file: &[u8], counts_room: usize, claims_room: usize) -> u32 {
+    pub fn read(
+        &mut self,
+        file: &[u8],
+        counts_room: usize,
+        claims_room: usize,
+        joined_room: usize,
+    ) -> u32 {
         let mut counts: Vec<u8> = (0..counts_room).map(preset_byte).collect();
         let mut claims: Vec<u32> = (0..claims_room).map(preset_claim).collect();
-        let answer = match second_rater::read(file, counts_room, claims_room) {
+        let mut joined: Vec<u8> = (0..joined_room).map(preset_bit).collect();
+        let answer = match second_rater::read(file, counts_room, claims_room, joined_room) {
             Err(question) => Group::refused(question),
             Ok(group) => {
                 counts[..group.counts.len()].copy_from_slice(&group.counts);
                 claims[..group.claims.len()].copy_from_slice(&group.claims);
-                Group::given(group.counts.len() as u32, group.header.into())
+                joined[..group.joined.len()].copy_from_slice(&group.joined);
+                let n = group.counts.len() as u32;
+                Group::given(group.edition, n, group.header.into())
             }
         };
         for place in PLACES {
             let lent = self.file.copy(file, place);
             let counts_buffer = self.counts.slice(counts_room, place);
             let claims_buffer = self.claims.slice(claims_room, place);
+            let joined_buffer = self.joined.slice(joined_room, place);
             fill(counts_buffer, preset_byte);
             fill(claims_buffer, preset_claim);
-            let given = calls::read(lent, counts_buffer, claims_buffer);
+            fill(joined_buffer, preset_bit);
+            let given = calls::read(lent, counts_buffer, claims_buffer, joined_buffer);
             let about = || {
-                let rooms = format!("{counts_room} counts and {claims_room} claims lent");
+                let rooms = format!("{counts_room} counts, {claims_room} claims");
+                let rooms = format!("{rooms} and {joined_room} bits lent");
                 format!("Read, {rooms}, {place:?}, {}", Bytes(file))
             };
             same(given, answer, "answer", about);
             same(&*counts_buffer, &counts[..], "counts", about);
             same(&*claims_buffer, &claims[..], "claims", about);
+            same(&*joined_buffer, &joined[..], "bits", about);
             same(&*lent, file, "file after the call", about);
         }
-        self.given.add(Call::Read, answer.refused);
+        self.given
+            .add(Call::Read, get(file, EDITION), answer.refused);
         answer.refused
     }
 
     /// Write of values into a buffer of so many bytes.
-    pub fn write(
-        &mut self,
-        header: &second_rater::Header,
-        counts: &[u8],
-        claims: &[u32],
-        room: usize,
-    ) -> u32 {
+    pub fn write(&mut self, values: &Values, room: usize) -> u32 {
         let mut file: Vec<u8> = (0..room).map(preset_byte).collect();
-        let (answer, length) = match second_rater::write(header, counts, claims, room) {
+        let (answer, length) = match values.written(room) {
             Err(question) => (question, LENGTH),
             Ok(bytes) => {
                 file[..bytes.len()].copy_from_slice(&bytes);
                 (0, bytes.len())
             }
         };
+        let Values {
+            edition,
+            header,
+            counts,
+            claims,
+            joined,
+        } = values;
         for place in PLACES {
             let lent_counts = self.counts.copy(counts, place);
             let lent_claims = self.claims.copy(claims, place);
+            let lent_joined = self.joined.copy(joined, place);
             let buffer = self.file.slice(room, place);
             fill(buffer, preset_byte);
             let given_length = self.length.number(LENGTH, place);
-            let header: Header = (*header).into();
-            let given = calls::write(header, lent_counts, lent_claims, buffer, given_length);
-            let about = || {
-                let values = format!("{header:?}, counts {counts:?}, claims {claims:?}");
-                format!("Write, {room} bytes lent, {place:?}, {values}")
-            };
+            let given = calls::write(
+                *edition,
+                (*header).into(),
+                lent_counts,
+                lent_claims,
+                lent_joined,
+                buffer,
+                given_length,
+            );
+            let about = || format!("Write, {room} bytes lent, {place:?}, {values:?}");
             same(given, answer, "answer", about);
             same(*given_length, length, "length", about);
             same(&*buffer, &file[..], "buffer", about);
-            same(&*lent_counts, counts, "counts after the call", about);
-            same(&*lent_claims, claims, "claims after the call", about);
+            same(&*lent_counts, &counts[..], "counts after the call", about);
+            same(&*lent_claims, &claims[..], "claims after the call", about);
+            same(&*lent_joined, &joined[..], "bits after the call", about);
         }
-        self.given.add(Call::Write, answer);
+        self.given.add(Call::Write, *edition, answer);
         answer
     }
 
-    /// Writes back what Read of an accepted file gives, which must yield the same bytes.
-    pub fn write_back(&mut self, file: &[u8]) {
+    /// What Read gives of an accepted file, as values for Write.
+    fn values_in(&mut self, file: &[u8]) -> Values {
         let place = PLACES[0];
         let lent = self.file.copy(file, place);
+        let most_claims = second_rater::MOST_RISKS * second_rater::MOST_CLAIMS_PER_RISK;
         let counts = self.counts.slice(second_rater::MOST_RISKS, place);
-        let claims_room = second_rater::MOST_RISKS * second_rater::MOST_CLAIMS_PER_RISK;
-        let claims = self.claims.slice(claims_room, place);
-        let group = calls::read(lent, counts, claims);
+        let claims = self.claims.slice(most_claims, place);
+        let joined = self.joined.slice(most_claims, place);
+        fill(joined, preset_bit);
+        let group = calls::read(lent, counts, claims, joined);
         assert_eq!(group.refused, 0, "{}", Bytes(file));
         let counts = &counts[..group.risks as usize];
-        let claims = &claims[..counts.iter().map(|&count| usize::from(count)).sum()];
-        let mut again = vec![0; file.len()];
-        let mut length = 0;
-        let answer = calls::write(group.header(), counts, claims, &mut again, &mut length);
+        let sum = counts.iter().map(|&count| usize::from(count)).sum();
+        Values {
+            edition: group.edition,
+            header: group.header().into(),
+            counts: counts.to_vec(),
+            claims: claims[..sum].to_vec(),
+            joined: joined[..sum].to_vec(),
+        }
+    }
+
+    /// Writes what Read of an accepted file gives, which must yield the same bytes.
+    pub fn write_back(&mut self, file: &[u8]) {
+        let values = self.values_in(file);
+        let again = file_of(&values);
         let about = || format!("Write of what Read gives, {}", Bytes(file));
-        same(answer, 0, "answer", about);
-        same(length, file.len(), "length", about);
         same(&again[..], file, "bytes", about);
     }
+
+    /// Reads what Write of accepted values gives, which must yield the same values.
+    pub fn read_back(&mut self, values: &Values) {
+        let file = file_of(values);
+        let again = self.values_in(&file);
+        let about = || format!("Read of what Write gives, {}", Bytes(&file));
+        same(&again, values, "values", about);
+    }
+}
+
+/// The file that Write makes of accepted values.
+fn file_of(values: &Values) -> Vec<u8> {
+    let mut file = vec![0; values.length()];
+    let mut length = 0;
+    let answer = calls::write(
+        values.edition,
+        values.header.into(),
+        &values.counts,
+        &values.claims,
+        &values.joined,
+        &mut file,
+        &mut length,
+    );
+    assert_eq!((answer, length), (0, file.len()), "{values:?}");
+    file
 }
 
 /// The numbers of Guaranteed as the call gives them.

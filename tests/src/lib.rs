@@ -36,7 +36,7 @@ pub fn examples() -> PathBuf {
 
 /// The questions that can be the first No of a file, in the order in which they are asked. 11
 /// cannot: a file that fails it has failed 18.
-pub const QUESTIONS_OF_A_FILE: [u32; 12] = [1, 2, 3, 4, 5, 6, 18, 7, 8, 9, 10, 12];
+pub const QUESTIONS_OF_A_FILE: [u32; 13] = [1, 2, 3, 4, 5, 6, 18, 7, 8, 9, 19, 10, 12];
 
 /// The example file that is refused with this question.
 pub fn refused_example(question: u32) -> PathBuf {

@@ -3,19 +3,20 @@
 //! pages.
 //!
 //! The gate runs 400,000 files for the calls of document 01, and 240,000 files with schedules for
-//! Guaranteed, from a fixed seed. A longer run, with another seed:
+//! Guaranteed, from a fixed seed, about half of them in either edition. A longer run, with another
+//! seed:
 //!
 //!     RETRO_FILES=5000000 RETRO_SEED=7 cargo test --offline --release --test compare -- generated
 
 use retro_tests::calls::{self, raw, Group, Numbers};
 use retro_tests::generator::{
-    get, set, Field, Random, HEADER, MINIMUM_MARK, RISKS, STANDARD_PREMIUM,
+    first_bits, risks_in, set, Random, EDITION, MINIMUM_MARK, STANDARD_PREMIUM,
 };
 use retro_tests::guard::Sparse;
 use retro_tests::held_calls::{Call, Counts, HeldCalls, CALLS};
 use retro_tests::samples::{
-    crossed_marks, four_risks, largest, one_claim_of_one, schedule, stock, ten_risks,
-    two_risks_of_ten, Sample,
+    accidents_cut, crossed_marks, four_risks, largest, largest_of_edition_2, one_claim_of_one,
+    scaffold, schedule, stock, ten_risks, two_risks_of_ten, Sample, Values,
 };
 use retro_tests::second_rater::{self, Header, Layer};
 use std::io::{self, Write};
@@ -69,6 +70,19 @@ fn generated_files() {
     ));
     let rare = counts.rarer_than(LEAST, &CALLS);
     assert!(rare.is_empty(), "fewer than {LEAST} times: {rare:?}");
+    for call in CALLS {
+        about_half_in_either_edition(&counts, call);
+    }
+}
+
+/// Between two and three fifths of what the call accepted is of edition 2.
+fn about_half_in_either_edition(counts: &Counts, call: Call) {
+    let [of_1, of_2] = [1, 2].map(|edition| counts.of_edition(edition, call, 0));
+    let fifth = (of_1 + of_2) / 5;
+    assert!(
+        (2 * fifth..=3 * fifth).contains(&of_2),
+        "{call:?} accepted {of_1} of edition 1 and {of_2} of edition 2"
+    );
 }
 
 #[test]
@@ -100,6 +114,7 @@ fn generated_schedules() {
         "fewer than {LEAST_OF_QUOTES} times: {rare:?}"
     );
     assert!(halves >= LEAST_OF_QUOTES, "{halves} exact halves");
+    about_half_in_either_edition(&counts, Call::Guaranteed);
 }
 
 /// Makes so many comparisons, in whole batches, on all cores. Gives how often each call gave each
@@ -150,32 +165,29 @@ fn compare_file(held_calls: &mut HeldCalls, random: &mut Random, file: &[u8]) {
     held_calls.table(file, random.entry_ratio());
     let counts_room = random.room(risks);
     let claims_room = random.room(claims);
-    if held_calls.read(file, counts_room, claims_room) == 0 {
+    let joined_room = random.room(claims);
+    if held_calls.read(file, counts_room, claims_room, joined_room) == 0 {
         held_calls.write_back(file);
     }
 }
 
-/// Write of values that may be sound or not.
+/// Write of values that may be sound or not, and Read of what Write gives.
 fn compare_values(held_calls: &mut HeldCalls, random: &mut Random) {
     let values = random.values();
     let room = random.room(values.length());
-    held_calls.write(&values.header, &values.counts, &values.claims, room);
+    if held_calls.write(&values, room) == 0 {
+        held_calls.read_back(&values);
+    }
 }
 
 /// The number of risks and of claims that a file has by its bytes, whatever the questions say to
 /// it.
 fn sizes(file: &[u8]) -> (usize, usize) {
-    let risks = get(file, RISKS) as usize;
-    let (mut at, mut claims) = (8 * HEADER, 0);
-    for _ in 0..risks {
-        let count = get(file, Field { at, width: 6 }) as usize;
-        claims += count;
-        at += 6 + 20 * count;
-    }
-    (risks, claims)
+    let risks = risks_in(file);
+    (risks.len(), risks.iter().map(|risk| risk.claims).sum())
 }
 
-/// Known groups, of which some fall at questions 10 and 12.
+/// Known groups of either edition, of which some fall at questions 10 and 12.
 fn known() -> Vec<Sample> {
     let mut no_losses = four_risks();
     no_losses.risks = vec![vec![0], vec![], vec![0, 0], vec![]];
@@ -190,6 +202,14 @@ fn known() -> Vec<Sample> {
         one_claim_of_one(255),
         two_risks_of_ten(1_000),
         two_risks_of_ten(2_000),
+        scaffold(),
+        accidents_cut(),
+        four_risks().in_edition_2(&[]),
+        one_claim_of_one(3).in_edition_2(&[]),
+        one_claim_of_one(255).in_edition_2(&[]),
+        two_risks_of_ten(2_000).in_edition_2(&[]),
+        no_losses.in_edition_2(&[(2, 1)]),
+        no_claims.in_edition_2(&[]),
         no_losses,
         no_claims,
     ]
@@ -202,7 +222,23 @@ fn crossed() -> Vec<Sample> {
         crossed_marks(1),
         crossed_marks(1_000),
         one_claim_of_one(3).with_marks(999, 1_000),
+        scaffold().with_marks(899, 900),
     ]
+}
+
+/// Files that fall at question 19, by the first, a middle and the last risk, and by all of them.
+fn joined_first() -> Vec<Vec<u8>> {
+    let file = accidents_cut().file();
+    let bits = first_bits(&file);
+    let chosen = [&bits[..1], &bits[1..2], &bits[3..], &bits];
+    let joined = chosen.map(|chosen| {
+        let mut file = file.clone();
+        for &bit in chosen {
+            set(&mut file, bit, 1);
+        }
+        file
+    });
+    joined.to_vec()
 }
 
 /// The files of the known groups, each with the question that it fails where its length is wrong:
@@ -211,7 +247,8 @@ fn known_files() -> Vec<(Vec<u8>, u32)> {
     let sound = known().into_iter().map(|sample| (sample.file(), 8));
     let crossed = crossed().into_iter();
     let crossed = crossed.map(|sample| (sample.file_of_any_marks(), 18));
-    sound.chain(crossed).collect()
+    let joined = joined_first().into_iter().map(|file| (file, 8));
+    sound.chain(crossed).chain(joined).collect()
 }
 
 /// Rate, Guaranteed, Table and Read of a file with room enough. Gives Read's answer.
@@ -220,7 +257,7 @@ fn all_calls(held_calls: &mut HeldCalls, file: &[u8]) -> u32 {
     held_calls.rate(file, 4 * most);
     held_calls.guaranteed(file, &stock(), 4 * most, most);
     held_calls.table(file, 100);
-    held_calls.read(file, most, 1_000)
+    held_calls.read(file, most, 1_000, 1_000)
 }
 
 #[test]
@@ -232,14 +269,15 @@ fn each_prefix() {
             assert_eq!(answer, if len < 16 { 1 } else { question });
         }
     }
-    // the largest file at each length around its header and its end, and at others between
-    let file = largest().file();
-    for len in (0..40)
-        .chain((40..file.len()).step_by(997))
-        .chain(file.len() - 20..file.len())
-    {
-        let answer = all_calls(&mut held_calls, &file[..len]);
-        assert_eq!(answer, if len < 16 { 1 } else { 8 });
+    // the largest files at each length around their header and their end, and at others between
+    for file in [largest().file(), largest_of_edition_2().file()] {
+        for len in (0..40)
+            .chain((40..file.len()).step_by(997))
+            .chain(file.len() - 20..file.len())
+        {
+            let answer = all_calls(&mut held_calls, &file[..len]);
+            assert_eq!(answer, if len < 16 { 1 } else { 8 });
+        }
     }
 }
 
@@ -249,7 +287,9 @@ fn each_bit() {
     for (mut file, _) in known_files() {
         for bit in 0..8 * file.len() {
             file[bit / 8] ^= 0x80 >> (bit % 8);
-            all_calls(&mut held_calls, &file);
+            if all_calls(&mut held_calls, &file) == 0 {
+                held_calls.write_back(&file);
+            }
             file[bit / 8] ^= 0x80 >> (bit % 8);
         }
     }
@@ -358,22 +398,28 @@ fn each_standard_premium_around_the_ends_of_layers() {
 }
 
 #[test]
-fn each_length_of_counts_and_claims() {
+fn each_length_of_counts_claims_and_bits() {
     let mut held_calls = HeldCalls::new();
-    let file = four_risks().file();
-    for counts_room in 0..=7 {
-        for claims_room in 0..=9 {
-            let answer = held_calls.read(&file, counts_room, claims_room);
-            let enough = counts_room >= 4 && claims_room >= 6;
-            assert_eq!(answer, if enough { 0 } else { 13 });
+    for sample in [four_risks(), four_risks().in_edition_2(&[(1, 1), (3, 2)])] {
+        let file = sample.file();
+        for counts_room in 0..=7 {
+            for (claims_room, joined_room) in (0..10).flat_map(|k| (0..10).map(move |j| (k, j))) {
+                let answer = held_calls.read(&file, counts_room, claims_room, joined_room);
+                let enough = counts_room >= 4 && claims_room >= 6 && joined_room >= 6;
+                assert_eq!(answer, if enough { 0 } else { 13 });
+            }
         }
     }
-    let file = largest().file();
-    for counts_room in 253..=257 {
-        for claims_room in 16_063..=16_067 {
-            let answer = held_calls.read(&file, counts_room, claims_room);
-            let enough = counts_room >= 255 && claims_room >= 16_065;
-            assert_eq!(answer, if enough { 0 } else { 13 });
+    for sample in [largest(), largest_of_edition_2()] {
+        let file = sample.file();
+        for counts_room in [254, 255, 256] {
+            for claims_room in [16_064, 16_065, 16_066] {
+                for joined_room in [16_064, 16_065, 16_066] {
+                    let answer = held_calls.read(&file, counts_room, claims_room, joined_room);
+                    let enough = counts_room >= 255 && claims_room.min(joined_room) >= 16_065;
+                    assert_eq!(answer, if enough { 0 } else { 13 });
+                }
+            }
         }
     }
 }
@@ -382,18 +428,31 @@ fn each_length_of_counts_and_claims() {
 fn each_length_of_the_written_file() {
     let mut held_calls = HeldCalls::new();
     for sample in known() {
-        let (counts, claims) = (sample.counts(), sample.claims());
+        let values = sample.values();
         let length = sample.file().len();
         for room in 0..=length + 9 {
-            let answer = held_calls.write(&sample.header, &counts, &claims, room);
+            let answer = held_calls.write(&values, room);
             assert_eq!(answer, if room < length { 13 } else { 0 });
         }
     }
     for sample in crossed() {
-        let (counts, claims) = (sample.counts(), sample.claims());
         for room in 0..=40 {
-            let answer = held_calls.write(&sample.header, &counts, &claims, room);
-            assert_eq!(answer, 18);
+            assert_eq!(held_calls.write(&sample.values(), room), 18);
+        }
+    }
+}
+
+#[test]
+fn each_length_of_the_bits_written() {
+    let mut held_calls = HeldCalls::new();
+    for sample in known() {
+        let mut values = sample.values();
+        let length = sample.file().len();
+        for len in 0..=values.claims.len() + 9 {
+            values.joined = sample.joined();
+            values.joined.resize(len, 0);
+            let answer = held_calls.write(&values, length);
+            assert_eq!(answer, if len == values.claims.len() { 0 } else { 15 });
         }
     }
 }
@@ -401,7 +460,12 @@ fn each_length_of_the_written_file() {
 #[test]
 fn each_entry_ratio() {
     let mut held_calls = HeldCalls::new();
-    for sample in [four_risks(), ten_risks(), one_claim_of_one(3)] {
+    for sample in [
+        four_risks(),
+        ten_risks(),
+        one_claim_of_one(3),
+        accidents_cut(),
+    ] {
         let file = sample.file();
         for entry_ratio in 0..=1_300 {
             let answer = held_calls.table(&file, entry_ratio);
@@ -429,30 +493,87 @@ fn with_value(header: &Header, place: usize, value: u32) -> Header {
 #[test]
 fn write_of_each_header_value() {
     let mut held_calls = HeldCalls::new();
-    let sample = four_risks();
-    let (counts, claims) = (sample.counts(), sample.claims());
-    for place in 0..8 {
-        for power in 0..32 {
-            for value in [
-                (1 << power) - 1,
-                1 << power,
-                (1 << power) + 1,
-                u32::MAX - (1 << power),
-            ] {
-                let header = with_value(&sample.header, place, value);
-                held_calls.write(&header, &counts, &claims, 34);
-                held_calls.write(&header, &counts, &claims, 33);
+    for sample in [four_risks(), four_risks().in_edition_2(&[(1, 1)])] {
+        let length = sample.file().len();
+        for place in 0..8 {
+            let values = |value: u32| Values {
+                header: with_value(&sample.header, place, value),
+                ..sample.values()
+            };
+            for power in 0..32 {
+                for value in [
+                    (1 << power) - 1,
+                    1 << power,
+                    (1 << power) + 1,
+                    u32::MAX - (1 << power),
+                ] {
+                    held_calls.write(&values(value), length);
+                    held_calls.write(&values(value), length - 1);
+                }
             }
-        }
-        for value in [
-            999, 1_000, 2_000, 2_001, 6_000, 6_001, 9_999, 10_000, 20_000, 20_001,
-        ] {
-            let header = with_value(&sample.header, place, value);
-            held_calls.write(&header, &counts, &claims, 34);
+            for value in [
+                999, 1_000, 2_000, 2_001, 6_000, 6_001, 9_999, 10_000, 20_000, 20_001,
+            ] {
+                held_calls.write(&values(value), length);
+            }
         }
     }
     for answer in [0, 3, 4, 5, 6, 18, 15, 13] {
-        assert!(held_calls.given.of(Call::Write, answer) > 0, "{answer}");
+        for edition in [1, 2] {
+            let times = held_calls.given.of_edition(edition, Call::Write, answer);
+            assert!(times > 0, "{answer} in edition {edition}");
+        }
+    }
+}
+
+#[test]
+fn write_of_each_edition() {
+    let mut held_calls = HeldCalls::new();
+    for sample in [four_risks(), scaffold()] {
+        let mut values = sample.values();
+        // a sound length for edition 1 and for edition 2
+        for power in 0..32 {
+            for edition in [
+                (1 << power) - 1,
+                1 << power,
+                (1 << power) + 1,
+                (1 << power) + 2,
+                u32::MAX - (1 << power),
+            ] {
+                values.edition = edition;
+                let answer = held_calls.write(&values, 100);
+                let joined = values.joined.contains(&1);
+                let sound = match edition {
+                    1 if joined => 15,
+                    1 | 2 => 0,
+                    _ => 2,
+                };
+                assert_eq!(answer, sound, "{edition}");
+            }
+        }
+    }
+}
+
+#[test]
+fn write_of_each_bit() {
+    let mut held_calls = HeldCalls::new();
+    for edition in [1, 2] {
+        for place in 0..6 {
+            for entry in 0..=255 {
+                let mut values = four_risks().values();
+                values.edition = edition;
+                values.joined[place] = entry;
+                let answer = held_calls.write(&values, 40);
+                // the first claims are those of the second, the third and the fourth risk
+                let expected = match (edition, entry) {
+                    (_, 0) => 0,
+                    (2, 1) if matches!(place, 0 | 2 | 3) => 19,
+                    (2, 1) => 0,
+                    _ => 15,
+                };
+                assert_eq!(answer, expected, "{entry} at {place} in edition {edition}");
+            }
+        }
     }
 }
 
@@ -461,53 +582,73 @@ fn write_of_numbers_that_wrap() {
     // Counts and claims so many that their number in 8 or 16 bits is a sound one.
     let mut held_calls = HeldCalls::new();
     let header = four_risks().header;
-    for more in [256, 512, 65_536] {
-        let mut counts = vec![0; 4 + more];
-        assert_eq!(held_calls.write(&header, &counts, &[], 34), 15);
-        counts.truncate(4);
-        counts[0] = 2;
-        assert_eq!(
-            held_calls.write(&header, &counts, &vec![7; 2 + more], 34),
-            15
-        );
+    for edition in [1, 2] {
+        let mut write = |counts: &[u8], claims: &[u32], room: usize| {
+            let values = Values {
+                edition,
+                ..Values::of_edition_1(&header, counts, claims)
+            };
+            held_calls.write(&values, room)
+        };
+        for more in [256, 512, 65_536] {
+            let mut counts = vec![0; 4 + more];
+            assert_eq!(write(&counts, &[], 34), 15);
+            counts.truncate(4);
+            counts[0] = 2;
+            assert_eq!(write(&counts, &vec![7; 2 + more], 34), 15);
+        }
+        // Counts that add to the number of claims only in 8 or 16 bits, or with the bits above a
+        // count's six dropped.
+        for counts in [
+            [64, 64, 64, 66],
+            [130, 0, 0, 0],
+            [66, 0, 0, 0],
+            [2, 192, 0, 64],
+        ] {
+            assert_eq!(write(&counts, &[7, 7], 34), 15);
+        }
+        // 255 risks of 255 claims each: 65,025 claims
+        assert_eq!(write(&[255; 255], &vec![1; 65_025], 1 << 17), 15);
     }
-    // Counts that add to the number of claims only in 8 or 16 bits, or with the bits above a
-    // count's six dropped.
-    for counts in [
-        [64, 64, 64, 66],
-        [130, 0, 0, 0],
-        [66, 0, 0, 0],
-        [2, 192, 0, 64],
-    ] {
-        assert_eq!(held_calls.write(&header, &counts, &[7, 7], 34), 15);
+    // Bits so many that their number in 8 or 16 bits is that of the claims.
+    for edition in [1, 2] {
+        for more in [256, 512, 65_536] {
+            let mut values = four_risks().values();
+            values.edition = edition;
+            values.joined.resize(6 + more, 0);
+            assert_eq!(held_calls.write(&values, 40), 15);
+        }
     }
-    // 255 risks of 255 claims each: 65,025 claims
-    let counts = [255; 255];
-    assert_eq!(
-        held_calls.write(&header, &counts, &vec![1; 65_025], 1 << 17),
-        15
-    );
 }
 
 #[test]
 fn write_of_each_claim_and_count() {
     let mut held_calls = HeldCalls::new();
     let header = four_risks().header;
-    for power in 0..32 {
-        for claim in [(1 << power) - 1, 1 << power, (1 << power) + 1] {
-            let answer = held_calls.write(&header, &[1, 1], &[5, claim], 23);
-            assert_eq!(answer, if claim < 1 << 20 { 0 } else { 15 });
+    for edition in [1, 2] {
+        let mut write = |counts: &[u8], claims: &[u32], room: usize| {
+            let values = Values {
+                edition,
+                ..Values::of_edition_1(&header, counts, claims)
+            };
+            held_calls.write(&values, room)
+        };
+        for power in 0..32 {
+            for claim in [(1 << power) - 1, 1 << power, (1 << power) + 1] {
+                let answer = write(&[1, 1], &[5, claim], 23);
+                assert_eq!(answer, if claim < 1 << 20 { 0 } else { 15 });
+            }
         }
-    }
-    for count in 0..=255u8 {
-        let claims = vec![9; usize::from(count)];
-        let answer = held_calls.write(&header, &[count], &claims, 200);
-        assert_eq!(answer, if count < 64 { 0 } else { 15 });
+        for count in 0..=255u8 {
+            let claims = vec![9; usize::from(count)];
+            let answer = write(&[count], &claims, 200);
+            assert_eq!(answer, if count < 64 { 0 } else { 15 });
+        }
     }
 }
 
 /// Rate, Table and Read with a null pointer for each slice whose count is 0.
-fn null_where_empty(file: &[u8], counts_room: usize, claims_room: usize) {
+fn null_where_empty(file: &[u8], counts_room: usize, claims_room: usize, joined_room: usize) {
     let lent = pointer(file);
     let (mut risks, mut basic, mut excess, mut billed) = (1, 2, 3, 4);
     // SAFETY: each pointer is good for its count; a null pointer has count 0.
@@ -536,6 +677,7 @@ fn null_where_empty(file: &[u8], counts_room: usize, claims_room: usize) {
 
     let mut counts = vec![7; counts_room];
     let mut claims = vec![8; claims_room];
+    let mut joined = vec![9; joined_room];
     // SAFETY: as above.
     let given = unsafe {
         raw::retro_read(
@@ -545,19 +687,24 @@ fn null_where_empty(file: &[u8], counts_room: usize, claims_room: usize) {
             counts_room,
             mutable(&mut claims),
             claims_room,
+            mutable(&mut joined),
+            joined_room,
         )
     };
-    match second_rater::read(file, counts_room, claims_room) {
+    match second_rater::read(file, counts_room, claims_room, joined_room) {
         Err(question) => {
             assert_eq!(given, Group::refused(question));
             assert!(counts.iter().all(|&count| count == 7));
             assert!(claims.iter().all(|&claim| claim == 8));
+            assert!(joined.iter().all(|&bit| bit == 9));
         }
         Ok(group) => {
             let n = group.counts.len();
-            assert_eq!(given, Group::given(n as u32, group.header.into()));
+            let expected = Group::given(group.edition, n as u32, group.header.into());
+            assert_eq!(given, expected);
             assert_eq!(counts[..n], group.counts);
             assert_eq!(claims[..group.claims.len()], group.claims);
+            assert_eq!(joined[..group.joined.len()], group.joined);
         }
     }
 }
@@ -582,18 +729,22 @@ fn mutable<T>(slice: &mut [T]) -> *mut T {
 
 #[test]
 fn null_pointers_where_the_count_is_0() {
-    null_where_empty(&[], 0, 0);
-    null_where_empty(&[], 4, 6);
+    null_where_empty(&[], 0, 0, 0);
+    null_where_empty(&[], 4, 6, 6);
     for (file, _) in known_files() {
-        for (counts_room, claims_room) in [(0, 0), (0, 300), (300, 0), (300, 300)] {
-            null_where_empty(&file, counts_room, claims_room);
+        for counts_room in [0, 300] {
+            for (claims_room, joined_room) in [(0, 0), (0, 300), (300, 0), (300, 300)] {
+                null_where_empty(&file, counts_room, claims_room, joined_room);
+            }
         }
     }
-    // Risks without claims are read into no claims.
+    // Risks without claims are read into no claims and no bits.
     let mut sample = one_claim_of_one(3);
     sample.risks = vec![vec![]; 3];
-    assert!(second_rater::read(&sample.file(), 3, 0).is_ok());
-    null_where_empty(&sample.file(), 3, 0);
+    for sample in [sample.in_edition_2(&[]), sample] {
+        assert!(second_rater::read(&sample.file(), 3, 0, 0).is_ok());
+        null_where_empty(&sample.file(), 3, 0, 0);
+    }
 }
 
 #[test]
@@ -644,24 +795,34 @@ fn guaranteed_with_null_pointers_where_the_count_is_0() {
 }
 
 /// Write with a null pointer for each slice whose count is 0.
-fn write_null_where_empty(header: &Header, counts: &[u8], claims: &[u32], room: usize) {
+fn write_null_where_empty(values: &Values, room: usize) {
+    let Values {
+        edition,
+        header,
+        counts,
+        claims,
+        joined,
+    } = values;
     let mut file = vec![0xee; room];
     let mut length = 77;
     // SAFETY: each pointer is good for its count; a null pointer has count 0.
     let answer = unsafe {
         raw::retro_write(
+            *edition,
             (*header).into(),
             pointer(counts),
             counts.len(),
             pointer(claims),
             claims.len(),
+            pointer(joined),
+            joined.len(),
             mutable(&mut file),
             room,
             &mut length,
         )
     };
     let mut expected = vec![0xee; room];
-    match second_rater::write(header, counts, claims, room) {
+    match values.written(room) {
         Err(question) => assert_eq!((answer, length), (question, 77)),
         Ok(bytes) => {
             assert_eq!((answer, length), (0, bytes.len()));
@@ -674,12 +835,25 @@ fn write_null_where_empty(header: &Header, counts: &[u8], claims: &[u32], room: 
 #[test]
 fn write_with_null_pointers_where_the_count_is_0() {
     for header in [four_risks().header, crossed_marks(1).header] {
-        write_null_where_empty(&header, &[], &[], 0);
-        write_null_where_empty(&header, &[], &[], 40);
-        write_null_where_empty(&header, &[0, 0], &[], 0);
-        write_null_where_empty(&header, &[0, 0], &[], 40);
-        write_null_where_empty(&header, &[1, 0], &[], 40);
-        write_null_where_empty(&header, &[1, 0], &[9], 0);
+        for edition in [1, 2, 3] {
+            let values = |counts: &[u8], claims: &[u32]| Values {
+                edition,
+                ..Values::of_edition_1(&header, counts, claims)
+            };
+            write_null_where_empty(&values(&[], &[]), 0);
+            write_null_where_empty(&values(&[], &[]), 40);
+            write_null_where_empty(&values(&[0, 0], &[]), 0);
+            write_null_where_empty(&values(&[0, 0], &[]), 40);
+            write_null_where_empty(&values(&[1, 0], &[]), 40);
+            write_null_where_empty(&values(&[1, 0], &[9]), 0);
+            // no bits beside a claim, and a bit beside no claims
+            let mut no_bits = values(&[1, 0], &[9]);
+            no_bits.joined.clear();
+            write_null_where_empty(&no_bits, 40);
+            let mut a_bit = values(&[0, 0], &[]);
+            a_bit.joined.push(0);
+            write_null_where_empty(&a_bit, 40);
+        }
     }
 }
 
@@ -695,7 +869,7 @@ fn files_as_long_as_the_address_space_has_room_for() {
             let (mut n, mut m, mut q, mut sum, mut charge, mut savings) = (0, 0, 0, 0, 0, 0);
             let rated = calls::rate(file, &mut premiums, &mut n, &mut m, &mut q, &mut sum);
             let tabled = calls::table(file, 100, &mut charge, &mut savings);
-            let group = calls::read(file, &mut [0; 4], &mut [0; 6]);
+            let group = calls::read(file, &mut [0; 4], &mut [0; 6], &mut [0; 6]);
             assert_eq!((rated, tabled, group.refused), (answer, answer, answer));
             let mut numbers = Numbers::default();
             let (layers, lent) = (stock().into(), &mut numbers.lend());
@@ -704,6 +878,8 @@ fn files_as_long_as_the_address_space_has_room_for() {
         };
         all(file, 2);
         file[..34].copy_from_slice(&four_risks().file());
+        all(file, 8);
+        set(file, EDITION, 2);
         all(file, 8);
         // a thousandth above the maximum mark
         set(file, MINIMUM_MARK, 901);
@@ -731,11 +907,24 @@ fn buffers_as_long_as_the_address_space_has_room_for() {
     assert_eq!((answer, numbers.difference), (0, -4_220));
     assert_eq!(differences[..5], [-4_520, -2_210, -1_055, 3_565, 0]);
 
-    let sample = four_risks();
-    let (counts, claims) = (sample.counts(), sample.claims());
+    let joined = memory.bytes();
+    joined[..8].fill(0xaa);
+    let group = calls::read(&file, &mut [0; 4], &mut [0; 6], joined);
+    assert_eq!((group.refused, group.edition), (0, 1));
+    assert_eq!(joined[..8], [0, 0, 0, 0, 0, 0, 0xaa, 0xaa]);
+
+    let values = four_risks().values();
     let written = memory.bytes();
     let mut length = 0;
-    let answer = calls::write(sample.header.into(), &counts, &claims, written, &mut length);
+    let answer = calls::write(
+        values.edition,
+        values.header.into(),
+        &values.counts,
+        &values.claims,
+        &values.joined,
+        written,
+        &mut length,
+    );
     assert_eq!((answer, length), (0, 34));
     assert_eq!(written[..34], file);
 }

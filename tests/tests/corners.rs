@@ -1,10 +1,10 @@
 //! The generator reaches the corners that the comparison is about, each many times.
 
 use retro_tests::generator::{
-    bits, get, set, Quote, Random, Values, MARK_KIND, MAXIMUM_MARK, MINIMUM_MARK, RISKS,
+    bits, first_bits, get, set, Quote, Random, MARK_KIND, MAXIMUM_MARK, MINIMUM_MARK, RISKS,
     STANDARD_PREMIUM,
 };
-use retro_tests::samples::{Sample, AMPLE};
+use retro_tests::samples::{ranges, Sample, Values, AMPLE};
 use retro_tests::second_rater::{self, Guaranteed};
 use std::collections::BTreeMap;
 use std::fmt::Debug;
@@ -17,11 +17,11 @@ fn dollars(sample: &Sample, mark: u32) -> u64 {
         return mark * u64::from(header.standard_premium) / 1_000;
     }
     let limit = match header.loss_limit {
-        0 => u32::MAX,
-        limit => limit,
+        0 => u64::MAX,
+        limit => limit.into(),
     };
-    let claims = sample.claims().into_iter();
-    let limited: u64 = claims.map(|claim| u64::from(claim.min(limit))).sum();
+    let accidents = sample.accidents().concat().into_iter();
+    let limited: u64 = accidents.map(|accident| accident.min(limit)).sum();
     mark * limited / (1_000 * sample.risks.len() as u64)
 }
 
@@ -78,7 +78,8 @@ fn corners(sample: &Sample) -> Vec<&'static str> {
     at("equal marks of 6.000", header.minimum_mark == 6_000);
     at("marks a thousandth apart", apart == 1);
     at("marks of 6.000 and 0", apart == 6_000);
-    at("no fill bits", bits(n, claims.len()).is_multiple_of(8));
+    let end = bits(sample.edition(), n, claims.len());
+    at("no fill bits", end.is_multiple_of(8));
     match second_rater::rate(&sample.file(), AMPLE) {
         Err(10) => at("refused 10", true),
         Err(12) => at("refused 12", true),
@@ -146,6 +147,265 @@ fn each_corner_is_reached() {
     each_is_reached(38, 1_965, 20_000, |random| corners(&random.group()));
 }
 
+/// The corners at which the accidents of a group lie; those of one claim each are in `corners`.
+fn corners_of_accidents(sample: &Sample) -> Vec<String> {
+    let Some(joined) = &sample.joined else {
+        return vec!["edition 1".to_string()];
+    };
+    let limit = u64::from(sample.header.loss_limit);
+    let cuts = |sum: u64| limit > 0 && sum > limit;
+    let mut corners = vec!["edition 2".to_string()];
+    let mut at = |corner: &str, holds: bool| {
+        if holds {
+            corners.push(corner.to_string());
+        }
+    };
+    let claims = sample.claims();
+    let any_joined = sample.joined().contains(&1);
+    at("no bit set beside claims", !any_joined && claims.len() > 1);
+    at("joined claims, no limit", any_joined && limit == 0);
+    at(
+        "joined claims, 255 risks",
+        any_joined && joined.len() == 255,
+    );
+    let end = bits(2, joined.len(), claims.len());
+    let fill = end.next_multiple_of(8) - end;
+    at(&format!("{fill} fill bits in edition 2"), true);
+
+    let sums = sample.accidents();
+    for (risk, joined) in joined.iter().enumerate() {
+        let dollars = &sample.risks[risk];
+        let after = sample.risks.get(risk + 1);
+        let next = after.is_some_and(|claims| !claims.is_empty());
+        at(
+            "a joined claim at the end of a risk before another's claims",
+            next && joined.last() == Some(&1),
+        );
+        at(
+            "all claims of a risk in one accident",
+            dollars.len() > 1 && sums[risk].len() == 1,
+        );
+        for pair in sums[risk].windows(2) {
+            let pair = [cuts(pair[0]), cuts(pair[1])];
+            at("an accident cut, then one not cut", pair == [true, false]);
+            at("an accident not cut, then one cut", pair == [false, true]);
+        }
+        for (accident, &sum) in ranges(joined).into_iter().zip(&sums[risk]) {
+            let dollars = &dollars[accident];
+            match dollars.len() {
+                1 => {
+                    at("an accident of one claim", true);
+                    continue;
+                }
+                2 | 3 => at(&format!("an accident of {} claims", dollars.len()), true),
+                63 => at("an accident of 63 claims", true),
+                10.. => at("an accident of 10 to 62 claims", true),
+                _ => {}
+            }
+            at("an accident of claims of 0", sum == 0);
+            at("a joined claim of 0", dollars[1..].contains(&0));
+            at("a claim of 0, then a joined one", dollars[0] == 0);
+            at("an accident at the limit", limit > 0 && sum == limit);
+            at("an accident a dollar below the limit", sum + 1 == limit);
+            at(
+                "an accident a dollar above the limit",
+                cuts(sum) && sum == limit + 1,
+            );
+            let below = dollars.iter().all(|&claim| u64::from(claim) < limit);
+            at(
+                "an accident cut of claims below the limit",
+                cuts(sum) && below,
+            );
+            let above = dollars.iter().filter(|&&claim| cuts(claim.into())).count();
+            at("an accident with one claim above the limit", above == 1);
+            at("an accident with two claims above the limit", above == 2);
+        }
+    }
+
+    let unjoined = sample.in_edition_2(&[]);
+    let rated = |sample: &Sample| second_rater::rate(&sample.file(), AMPLE);
+    match (rated(sample), rated(&unjoined)) {
+        (Ok(given), Ok(otherwise)) => {
+            at("M by the bits", given.basic != otherwise.basic);
+            at("Q by the bits", given.excess != otherwise.excess);
+            at("premiums by the bits", given.premiums != otherwise.premiums);
+        }
+        (Ok(_), Err(_)) => at("rated by the bits", true),
+        (Err(_), Ok(_)) => at("refused by the bits", true),
+        (Err(_), Err(_)) => {}
+    }
+    corners.sort();
+    corners.dedup();
+    corners
+}
+
+#[test]
+fn each_corner_of_accidents_is_reached() {
+    each_is_reached(36, 2_021, 30_000, |random| {
+        corners_of_accidents(&random.group())
+    });
+}
+
+/// Which of so many first claims are joined, by their places.
+fn which(joined: &[usize], first_claims: usize) -> &'static str {
+    match joined {
+        [0] if first_claims == 1 => "the only one",
+        [0] => "the first alone",
+        [one] if one + 1 == first_claims => "the last alone",
+        [_] => "one between alone",
+        _ => "several",
+    }
+}
+
+/// The corners at which a file with the bit of a first claim set lies, and its other faults with
+/// those of a room for the premiums and of an entry ratio.
+fn corners_of_first_bits(file: &[u8], room: usize, entry_ratio: u32) -> Vec<String> {
+    let first = first_bits(file);
+    let is_set = |&k: &usize| get(file, first[k]) == 1;
+    let joined: Vec<usize> = (0..first.len()).filter(is_set).collect();
+    if joined.is_empty() {
+        return Vec::new();
+    }
+    let question = second_rater::read(file, AMPLE, AMPLE, AMPLE).unwrap_err();
+    if question != 19 {
+        return vec![format!("{question} and 19")];
+    }
+
+    let mut corners = vec![format!("19 of {}", which(&joined, first.len()))];
+    let mut at = |corner: &str, holds: bool| {
+        if holds {
+            corners.push(corner.to_string());
+        }
+    };
+    // the other faults are those that remain with these bits cleared
+    let mut cleared = file.to_vec();
+    for &bit in &first {
+        set(&mut cleared, bit, 0);
+    }
+    match second_rater::rate(&cleared, AMPLE) {
+        Ok(rated) => {
+            let enough = room >= 4 * rated.risks as usize;
+            at("19 alone", enough && entry_ratio <= 600);
+            at("19 and 13", !enough);
+            at("19 and 14", entry_ratio > 600);
+        }
+        Err(question) => at(&format!("19 and {question}"), true),
+    }
+    corners
+}
+
+#[test]
+fn each_corner_of_first_bits_is_reached() {
+    // eight of a question before 19, five of the risks, 19 alone, and four of a question after it
+    each_is_reached(18, 2_022, 60_000, |random| {
+        let file = random.file();
+        let room = random.room(4 * get(&file, RISKS) as usize);
+        corners_of_first_bits(&file, room, random.entry_ratio())
+    });
+}
+
+/// The corners at which the edition and the bits of values for Write lie, and their other faults.
+fn corners_of_bits(values: &Values, room: usize) -> Vec<String> {
+    let Values {
+        edition,
+        counts,
+        claims,
+        joined,
+        ..
+    } = values;
+    let mut corners = Vec::new();
+    let mut at = |corner: &str, holds: bool| {
+        if holds {
+            corners.push(corner.to_string());
+        }
+    };
+    // a sound edition in place of another one
+    let sound = Values {
+        edition: if joined.contains(&1) { 2 } else { 1 },
+        ..values.clone()
+    };
+    if !(1..=2).contains(edition) {
+        at("edition 0", *edition == 0);
+        at("edition 3 to 15", (3..16).contains(edition));
+        let in_its_bits = matches!(edition % 16, 1 | 2);
+        at("an edition with 1 or 2 in its last four bits", in_its_bits);
+        match sound.written(room) {
+            Ok(_) => at("2 alone", true),
+            Err(question) => at(&format!("2 and {question}"), true),
+        }
+        return corners;
+    }
+
+    let mut first = 0;
+    let mut first_claims = Vec::new();
+    for &count in counts {
+        if count > 0 && first < joined.len() {
+            first_claims.push(first);
+        }
+        first += usize::from(count);
+    }
+    let is_set = |&k: &usize| joined[first_claims[k]] == 1;
+    let joined_first: Vec<usize> = (0..first_claims.len()).filter(is_set).collect();
+    match values.written(AMPLE) {
+        Err(15) => {
+            let without_bits = Values {
+                joined: vec![0; claims.len()],
+                ..values.clone()
+            };
+            if without_bits.written(AMPLE).is_err() {
+                at("15 of other values and 19", !joined_first.is_empty());
+                return corners;
+            }
+            let enough = room >= values.length();
+            at("15 of the bits alone", enough);
+            at("15 of the bits and 13", !enough);
+            let with_19 = !joined_first.is_empty() && *edition == 2;
+            at("15 of the bits and 19", with_19);
+            let above_1 = joined.iter().any(|&bit| bit > 1);
+            at(
+                &format!("fewer bits in edition {edition}"),
+                joined.len() < claims.len(),
+            );
+            at(
+                &format!("more bits in edition {edition}"),
+                joined.len() > claims.len(),
+            );
+            at(&format!("a bit above 1 in edition {edition}"), above_1);
+            at("a bit of edition 1", *edition == 1 && joined.contains(&1));
+        }
+        Err(19) => {
+            let risks = which(&joined_first, first_claims.len());
+            at(&format!("19 of {risks}"), true);
+            let enough = room >= values.length();
+            at("19 alone", enough);
+            at("19 and 13", !enough);
+        }
+        Err(question) => {
+            let above_1 = joined.iter().any(|&bit| bit > 1);
+            let length = joined.len() != claims.len();
+            at(&format!("{question} and 15 of the bits"), above_1 || length);
+            let of_2 = *edition == 2 && !joined_first.is_empty();
+            at(&format!("{question} and 19"), of_2);
+        }
+        Ok(_) => {
+            at(&format!("sound in edition {edition}"), true);
+            at(&format!("13 in edition {edition}"), room < values.length());
+        }
+    }
+    corners
+}
+
+#[test]
+fn each_corner_of_bits_is_reached() {
+    // three of another edition, ten of 2 with its other faults, eleven of a question before 15,
+    // seven of the bits, four of 15 with its other faults, seven of 19, and four of what is sound
+    each_is_reached(46, 2_023, 100_000, |random| {
+        let values = random.values();
+        let room = random.room(values.length());
+        corners_of_bits(&values, room)
+    });
+}
+
 /// The corner of crossed marks with a fault of a question that is asked before 18.
 fn before_18(question: u32, maximum_mark: u32) -> String {
     match question {
@@ -161,7 +421,7 @@ fn corners_of_file(file: &[u8], entry_ratio: u32) -> Vec<String> {
     if minimum_mark <= maximum_mark {
         return Vec::new();
     }
-    let question = second_rater::read(file, AMPLE, AMPLE).unwrap_err();
+    let question = second_rater::read(file, AMPLE, AMPLE, AMPLE).unwrap_err();
     if question != 18 {
         return vec![before_18(question, maximum_mark)];
     }
@@ -182,7 +442,7 @@ fn corners_of_file(file: &[u8], entry_ratio: u32) -> Vec<String> {
     set(&mut exchanged, MAXIMUM_MARK, minimum_mark);
     set(&mut exchanged, MINIMUM_MARK, maximum_mark);
     let answer = second_rater::rate(&exchanged, AMPLE).err().unwrap_or(0);
-    match second_rater::read(&exchanged, AMPLE, AMPLE) {
+    match second_rater::read(&exchanged, AMPLE, AMPLE, AMPLE) {
         Err(question) => at(&question.to_string(), true),
         Ok(_) if answer == 10 => at("10", true),
         Ok(group) => {
@@ -202,8 +462,8 @@ fn corners_of_file(file: &[u8], entry_ratio: u32) -> Vec<String> {
 
 #[test]
 fn each_corner_of_crossed_marks_is_reached() {
-    // seven of a question before 18, and thirteen of each kind of marks
-    each_is_reached(33, 1_968, 60_000, |random| {
+    // seven of a question before 18, and fourteen of each kind of marks
+    each_is_reached(35, 1_968, 60_000, |random| {
         let file = random.file();
         corners_of_file(&file, random.entry_ratio())
     });
@@ -212,14 +472,16 @@ fn each_corner_of_crossed_marks_is_reached() {
 /// The faults of values for Write beside a minimum mark above the maximum mark.
 fn corners_of_values(values: &Values, room: usize) -> Vec<String> {
     let Values {
+        edition,
         header,
         counts,
         claims,
+        joined,
     } = values;
     if header.minimum_mark <= header.maximum_mark {
         return Vec::new();
     }
-    let question = second_rater::write(header, counts, claims, AMPLE).unwrap_err();
+    let question = values.written(AMPLE).unwrap_err();
     if question != 18 {
         return vec![before_18(question, header.maximum_mark)];
     }
@@ -230,10 +492,10 @@ fn corners_of_values(values: &Values, room: usize) -> Vec<String> {
             corners.push(corner.to_string());
         }
     };
-    let mut exchanged = *header;
-    exchanged.maximum_mark = header.minimum_mark;
-    exchanged.minimum_mark = header.maximum_mark;
-    match second_rater::write(&exchanged, counts, claims, AMPLE) {
+    let mut exchanged = values.clone();
+    exchanged.header.maximum_mark = header.minimum_mark;
+    exchanged.header.minimum_mark = header.maximum_mark;
+    match exchanged.written(AMPLE) {
         Ok(file) => {
             let enough = room >= file.len();
             at(
@@ -250,8 +512,15 @@ fn corners_of_values(values: &Values, room: usize) -> Vec<String> {
             at("18 and 7", claims.is_empty());
             at("18, 7 and claims without counts", !claims.is_empty());
         }
+        Err(19) => at("18 and 19", true),
         Err(_) => {
             let counted: usize = counts.iter().map(|&count| usize::from(count)).sum();
+            at("18 and a number of bits", joined.len() != claims.len());
+            at("18 and a bit above 1", joined.iter().any(|&bit| bit > 1));
+            at(
+                "18 and a bit of edition 1",
+                *edition == 1 && joined.contains(&1),
+            );
             at("18 and 256 counts or more", counts.len() > 255);
             at(
                 "18 and a count above 63",
@@ -273,7 +542,7 @@ fn corners_of_values(values: &Values, room: usize) -> Vec<String> {
 
 #[test]
 fn each_corner_of_crossed_values_is_reached() {
-    each_is_reached(18, 1_969, 40_000, |random| {
+    each_is_reached(23, 1_969, 60_000, |random| {
         let values = random.values();
         let room = random.room(values.length());
         corners_of_values(&values, room)

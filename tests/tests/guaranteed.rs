@@ -492,7 +492,7 @@ fn the_rest_is_what_rate_gives() {
         }
     }
     let mut random = Random::new(1_986);
-    let mut given = [0; 19];
+    let mut given = [0; 20];
     for _ in 0..20_000 {
         let quote = random.quote();
         given[compare_with_rate(&quote.file, quote.premiums_room) as usize] += 1;

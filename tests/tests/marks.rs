@@ -11,8 +11,8 @@ use retro_tests::generator::{
 };
 use retro_tests::held_calls::{Call, HeldCalls};
 use retro_tests::samples::{
-    crossed_marks, four_risks, one_claim_of_one, one_risk, schedule, stock, ten_risks,
-    two_risks_of_ten, Sample,
+    crossed_marks, four_risks, one_claim_of_one, one_risk, scaffold, schedule, stock, ten_risks,
+    two_risks_of_ten, Sample, Values,
 };
 use retro_tests::second_rater::{Header, Layer};
 
@@ -29,8 +29,7 @@ fn with_marks(sample: &Sample, kind: u32, maximum: u32, minimum: u32) -> Sample 
 
 /// Write of a group with room enough.
 fn write(held_calls: &mut HeldCalls, sample: &Sample) -> u32 {
-    let (counts, claims) = (sample.counts(), sample.claims());
-    held_calls.write(&sample.header, &counts, &claims, 1 << 11)
+    held_calls.write(&sample.values(), 1 << 11)
 }
 
 /// The answers of Rate, Guaranteed, Table, Read and Write to a group, with room enough and a sound
@@ -41,7 +40,7 @@ fn answers(held_calls: &mut HeldCalls, sample: &Sample) -> [u32; 5] {
         held_calls.rate(&file, BYTES),
         held_calls.guaranteed(&file, &stock(), BYTES, ENTRIES),
         held_calls.table(&file, 100),
-        held_calls.read(&file, ENTRIES, ENTRIES),
+        held_calls.read(&file, ENTRIES, ENTRIES, ENTRIES),
         write(held_calls, sample),
     ]
 }
@@ -184,6 +183,8 @@ fn crossed_groups() -> Vec<Sample> {
         with_marks(&one_claim_of_one(3), 1, 0, 1),
         with_marks(&one_claim_of_one(3), 0, 0, 6_000),
         with_marks(&two_risks_of_ten(1_000), 1, 1_000, 1_001),
+        with_marks(&scaffold(), 0, 200, 900),
+        with_marks(&scaffold(), 1, 899, 900),
     ]
 }
 
@@ -220,8 +221,14 @@ fn all_give(held_calls: &mut HeldCalls, file: &[u8], question: u32) {
     for entry_ratio in [0, 100, 600, 601, u32::MAX] {
         assert_eq!(held_calls.table(file, entry_ratio), question, "{file:02x?}");
     }
-    for (counts, claims) in [(ENTRIES, ENTRIES), (0, ENTRIES), (ENTRIES, 0), (0, 0)] {
-        let answer = held_calls.read(file, counts, claims);
+    for (counts, claims, joined) in [
+        (ENTRIES, ENTRIES, ENTRIES),
+        (0, ENTRIES, ENTRIES),
+        (ENTRIES, 0, ENTRIES),
+        (ENTRIES, ENTRIES, 0),
+        (0, 0, 0),
+    ] {
+        let answer = held_calls.read(file, counts, claims, joined);
         assert_eq!(answer, question, "{file:02x?}");
     }
 }
@@ -236,8 +243,9 @@ fn crossed_marks_with_13_14_16_and_17_give_18() {
     let file = four_risks().file();
     assert_eq!(held_calls.rate(&file, 3), 13);
     assert_eq!(held_calls.table(&file, 601), 14);
-    assert_eq!(held_calls.read(&file, 0, ENTRIES), 13);
-    assert_eq!(held_calls.read(&file, ENTRIES, 0), 13);
+    assert_eq!(held_calls.read(&file, 0, ENTRIES, ENTRIES), 13);
+    assert_eq!(held_calls.read(&file, ENTRIES, 0, ENTRIES), 13);
+    assert_eq!(held_calls.read(&file, ENTRIES, ENTRIES, 0), 13);
     let answers = schedules().map(|layers| held_calls.guaranteed(&file, &layers, BYTES, ENTRIES));
     assert_eq!(answers, [0, 16, 16, 17, 16]);
     assert_eq!(held_calls.guaranteed(&file, &stock(), 3, ENTRIES), 13);
@@ -251,7 +259,7 @@ fn crossed_marks_with_1_to_5_give_the_other() {
         let file = sample.file_of_any_marks();
         // 15 bytes have both marks, of which the last bit is the file's 119th
         all_give(&mut held_calls, &file[..15], 1);
-        for edition in [0, 2, 15] {
+        for edition in [0, 3, 15] {
             all_give(&mut held_calls, &with(&file, EDITION, edition), 2);
         }
         all_give(&mut held_calls, &with(&file, SPARE, 1), 2);
@@ -421,8 +429,8 @@ fn write_gives(
     question: u32,
 ) {
     for room in [1 << 11, 16, 0] {
-        let answer = held_calls.write(header, counts, claims, room);
-        assert_eq!(answer, question, "{header:?} {counts:?} {claims:?}");
+        let values = Values::of_edition_1(header, counts, claims);
+        assert_eq!(held_calls.write(&values, room), question, "{values:?}");
     }
 }
 
@@ -477,8 +485,9 @@ fn write_of_crossed_marks_gives_18() {
             // 13 as well where the room is not enough
             write_gives(&mut held_calls, &header, counts, claims, 18);
             for header in [exchanged, equal] {
-                assert_eq!(held_calls.write(&header, counts, claims, 40), 0);
-                assert_eq!(held_calls.write(&header, counts, claims, 16), 13);
+                let values = Values::of_edition_1(&header, counts, claims);
+                assert_eq!(held_calls.write(&values, 40), 0);
+                assert_eq!(held_calls.write(&values, 16), 13);
             }
         }
     }
@@ -679,7 +688,7 @@ fn generated_groups_with_their_marks_exchanged() {
     let mut apart = [0; 2];
     for _ in 0..4_000 {
         let sample = random.group();
-        let (counts, claims) = (sample.counts(), sample.claims());
+        let most = sample.claims().len();
         let Header {
             mark_kind,
             maximum_mark,
@@ -692,8 +701,8 @@ fn generated_groups_with_their_marks_exchanged() {
             held_calls.rate(&file, BYTES),
             held_calls.guaranteed(&file, &stock(), BYTES, ENTRIES),
             held_calls.table(&file, 100),
-            held_calls.read(&file, 255, claims.len()),
-            held_calls.write(&exchanged.header, &counts, &claims, file.len()),
+            held_calls.read(&file, 255, most, most),
+            held_calls.write(&exchanged.values(), file.len()),
         ];
         let crossed = maximum_mark > minimum_mark;
         assert_eq!(answers.map(|answer| answer == 18), [crossed; 5]);

@@ -40,7 +40,8 @@ fn table(file: &[u8], entry_ratio: u32) -> Result<(u32, u32), u32> {
 
 /// Read's answer where the buffers are large.
 fn read(file: &[u8]) -> u32 {
-    calls::read(file, &mut [0; 255], &mut vec![0; 16_065]).refused
+    let (mut claims, mut joined) = (vec![0; 16_065], vec![0; 16_065]);
+    calls::read(file, &mut [0; 255], &mut claims, &mut joined).refused
 }
 
 /// Guaranteed's refusal under the stock schedule, where the buffers are large; all keep their
@@ -64,11 +65,12 @@ fn write(sample: &Sample) -> Vec<u8> {
 fn try_write(sample: &Sample) -> Result<Vec<u8>, u32> {
     let mut file = vec![0xee; 40_370];
     let mut length = 9;
-    let (counts, claims) = (sample.counts(), sample.claims());
     let answer = calls::write(
+        sample.edition(),
         sample.header.into(),
-        &counts,
-        &claims,
+        &sample.counts(),
+        &sample.claims(),
+        &sample.joined(),
         &mut file,
         &mut length,
     );
@@ -134,7 +136,8 @@ fn four_risks_tabled() {
 fn four_risks_read() {
     let mut counts = [0xee; 6];
     let mut claims = [0xeeee_eeee; 8];
-    let group = calls::read(&FOUR_RISKS, &mut counts, &mut claims);
+    let mut joined = [0xee; 8];
+    let group = calls::read(&FOUR_RISKS, &mut counts, &mut claims, &mut joined);
     let header = Header {
         loss_limit: 5_000,
         standard_premium: 10_000,
@@ -145,10 +148,11 @@ fn four_risks_read() {
         maximum_mark: 900,
         minimum_mark: 200,
     };
-    assert_eq!(group, Group::given(4, header));
+    assert_eq!(group, Group::given(1, 4, header));
     assert_eq!(counts, [0, 2, 1, 3, 0xee, 0xee]);
     assert_eq!(claims[..6], [3_000, 1_000, 7_000, 5_000, 6_000, 2_000]);
     assert_eq!(claims[6..], [0xeeee_eeee; 2]);
+    assert_eq!(joined, [0, 0, 0, 0, 0, 0, 0xee, 0xee]);
 }
 
 #[test]
@@ -264,7 +268,7 @@ fn each_bit_of_the_three_risk_file_as_the_second_rater_says() {
         file[bit / 8] ^= 0x80 >> (bit % 8);
         held_calls.rate(&file, 1_020);
         held_calls.table(&file, 100);
-        held_calls.read(&file, 255, 1_000);
+        held_calls.read(&file, 255, 1_000, 1_000);
         file[bit / 8] ^= 0x80 >> (bit % 8);
     }
 }
@@ -331,7 +335,7 @@ fn ten_risks_of_document_001() {
 // ---- the largest file
 
 #[test]
-fn the_largest_file_is_written_and_read_back() {
+fn the_largest_file_of_edition_1_is_written_and_read_back() {
     let mut sample = largest();
     for (k, claim) in sample.risks.iter_mut().flatten().enumerate() {
         *claim -= k as u32 * 61;
@@ -341,18 +345,25 @@ fn the_largest_file_is_written_and_read_back() {
 
     let mut counts = [0; 255];
     let mut claims = vec![0; 16_065];
-    let group = calls::read(&file, &mut counts, &mut claims);
-    assert_eq!(group, Group::given(255, sample.header.into()));
+    let mut joined = vec![0xee; 16_065];
+    let group = calls::read(&file, &mut counts, &mut claims, &mut joined);
+    assert_eq!(group, Group::given(1, 255, sample.header.into()));
     assert_eq!(counts, [63; 255]);
     assert_eq!(claims, sample.claims());
+    assert_eq!(joined, [0; 16_065]);
 
     let mut again = vec![0; 40_370];
     let mut length = 0;
-    assert_eq!(
-        calls::write(group.header(), &counts, &claims, &mut again, &mut length),
-        0
+    let answer = calls::write(
+        group.edition,
+        group.header(),
+        &counts,
+        &claims,
+        &joined,
+        &mut again,
+        &mut length,
     );
-    assert_eq!(length, 40_370);
+    assert_eq!((answer, length), (0, 40_370));
     assert_eq!(again, file);
 }
 
