@@ -7,7 +7,9 @@
 //!   many risks and claims it has.
 //!
 //! The text is the same both ways: eight header values in file order on the first line, then a line
-//! for each risk with its claims, or with `-` alone where it has none.
+//! for each risk with its claims, or with `-` alone where it has none. In edition 2 there is a line
+//! `edition 2` before them, and a claim that belongs to the accident of the claim before it has a
+//! `+` before its digits.
 //!
 //! Without a name, or with `-` for it, input is standard input and output is standard output. A text
 //! with a mistake gives no byte; the file of an output name is written whole or not at all, and one
@@ -137,20 +139,20 @@ fn table(r: &str, file: &str) -> Result<(), Stop> {
 
 fn read(file: &str) -> Result<(), Stop> {
     let most_claims = MOST_RISKS * MOST_CLAIMS_PER_RISK;
-    let group = second_rater::read(&input(file)?, MOST_RISKS, most_claims).map_err(refused)?;
+    let file = input(file)?;
+    let group = second_rater::read(&file, MOST_RISKS, most_claims, most_claims).map_err(refused)?;
     output(STANDARD, text::print(&Sample::of(&group)).as_bytes())
 }
 
 fn write(text: &str, file: &str) -> Result<(), Stop> {
     let sample =
         text::parse(&input(text)?).map_err(|mistake| Stop::Refused(mistake.to_string()))?;
-    let (counts, claims) = (sample.counts(), sample.claims());
-    let bytes =
-        second_rater::write(&sample.header, &counts, &claims, LARGEST_FILE).map_err(refused)?;
+    let values = sample.values();
+    let bytes = values.written(LARGEST_FILE).map_err(refused)?;
     output(file, &bytes)?;
     let (risks, claims) = (
-        counted(counts.len(), "risk"),
-        counted(claims.len(), "claim"),
+        counted(values.counts.len(), "risk"),
+        counted(values.claims.len(), "claim"),
     );
     eprintln!("{risks} and {claims} written");
     Ok(())

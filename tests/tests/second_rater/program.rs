@@ -1,7 +1,8 @@
 //! The program `grouptext`.
 
 use retro_tests::samples::{
-    crossed_marks, four_risks, largest, one_claim_of_one, ten_risks, FOUR_RISKS_PRINTED,
+    crossed_marks, four_risks, largest, largest_of_edition_2, one_claim_of_one, scaffold,
+    ten_risks, FOUR_RISKS_PRINTED, SCAFFOLD_PRINTED,
 };
 use retro_tests::{repository, text};
 use std::io::Write;
@@ -16,6 +17,12 @@ const FOUR_RISKS: &str = "5000 10000 2000 1100 10500 0 900 200\n\
                           3000 1000\n\
                           7000\n\
                           5000 6000 2000\n";
+
+const SCAFFOLD: &str = "edition 2\n\
+                        5000 10000 2000 1100 10500 0 900 200\n\
+                        3000 +4000\n\
+                        -\n\
+                        1000 +4000 3000\n";
 
 fn run(arguments: &[&str], input: &[u8]) -> Output {
     run_into(arguments, input, Stdio::piped())
@@ -45,6 +52,17 @@ fn output(arguments: &[&str], input: &[u8]) -> String {
 #[test]
 fn rate_prints_the_four_risks() {
     assert_eq!(output(&["rate"], &four_risks().file()), FOUR_RISKS_PRINTED);
+    let in_edition_2 = four_risks().in_edition_2(&[]);
+    assert_eq!(output(&["rate"], &in_edition_2.file()), FOUR_RISKS_PRINTED);
+}
+
+#[test]
+fn scaffold_from_its_text() {
+    let (file, said) = written(SCAFFOLD.as_bytes());
+    assert_eq!(file, scaffold().file());
+    assert_eq!(said, "3 risks and 5 claims written\n");
+    assert_eq!(output(&["read"], &file), SCAFFOLD);
+    assert_eq!(output(&["rate"], &file), SCAFFOLD_PRINTED);
 }
 
 #[test]
@@ -127,6 +145,7 @@ fn read_of_what_write_made_prints_the_same_text() {
         one_claim_of_one(3),
         risks_without_claims,
         largest(),
+        largest_of_edition_2(),
     ] {
         let text = text::print(&sample);
         let (file, _) = written(text.as_bytes());
@@ -137,7 +156,7 @@ fn read_of_what_write_made_prints_the_same_text() {
 
 #[test]
 fn write_of_a_text_with_a_mistake_gives_no_byte() {
-    let cases: [(&[u8], &str); 5] = [
+    let cases: [(&[u8], &str); 7] = [
         (
             b"0 0 0 1000 10000 1 1000 0\n1\n",
             "line 1, standard premium: 0 is not a whole number from 1 to 4194303 (dollars)\n",
@@ -157,6 +176,14 @@ fn write_of_a_text_with_a_mistake_gives_no_byte() {
         (
             b"0 1 0 1000 10000 1 1000 0\n1\n\n",
             "line 3, risk 2: a blank line; a risk without claims is a line with - alone\n",
+        ),
+        (
+            b"0 1 0 1000 10000 1 1000 0\n1 +2\n",
+            "line 2, claim 2 of risk 1: +2 is for edition 2\n",
+        ),
+        (
+            b"edition 2\n0 1 0 1000 10000 1 1000 0\n1\n+1\n",
+            "line 4, claim 1 of risk 2: +1 has no claim before it in the risk\n",
         ),
     ];
     for (text, mistake) in cases {

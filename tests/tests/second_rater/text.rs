@@ -1,7 +1,7 @@
 //! The text of a group: there and back, and each mistake by its line, field and limit.
 
 use retro_tests::generator::Random;
-use retro_tests::samples::{four_risks, Sample};
+use retro_tests::samples::{four_risks, scaffold, Sample, Values};
 use retro_tests::second_rater;
 use retro_tests::text::{parse, print};
 
@@ -20,6 +20,89 @@ fn text_of_the_four_risks() {
 }
 
 #[test]
+fn text_of_the_scaffold() {
+    let text = format!("edition 2\n{HEADER}\n3000 +4000\n-\n1000 +4000 3000\n");
+    assert_eq!(print(&scaffold()), text);
+    assert_eq!(parse(text.as_bytes()), Ok(scaffold()));
+    // The edition is 1 unless it is named, and may be named.
+    let claims = format!("{HEADER}\n3000 4000\n-\n1000 4000 3000\n");
+    let of_edition_1 = Sample {
+        joined: None,
+        ..scaffold()
+    };
+    assert_eq!(print(&of_edition_1), claims);
+    assert_eq!(parse(claims.as_bytes()), Ok(of_edition_1.clone()));
+    let named = format!("edition 1\n{claims}");
+    assert_eq!(parse(named.as_bytes()), Ok(of_edition_1.clone()));
+    // In edition 2 no claim need be joined.
+    let unjoined = format!("edition 2\n{claims}");
+    assert_eq!(
+        parse(unjoined.as_bytes()),
+        Ok(of_edition_1.in_edition_2(&[]))
+    );
+}
+
+#[test]
+fn edition_and_joined_claims_have_their_limits() {
+    for line in [
+        "edition",
+        "edition 0",
+        "edition 3",
+        "edition 12",
+        "edition 2 2",
+        "edition +2",
+    ] {
+        assert_eq!(
+            mistake(&format!("{line}\n{HEADER}\n7000\n")),
+            "line 1, edition: a line with edition 1 or edition 2 alone, or no such line"
+        );
+    }
+    // Another word, or the line in another place, is no edition.
+    let said = mistake(&format!("Edition 2\n{HEADER}\n7000\n"));
+    assert!(said.starts_with("line 1, loss limit: Edition is not "));
+    let said = mistake(&format!("{HEADER}\nedition 2\n7000\n"));
+    assert!(said.starts_with("line 2, claim 1 of risk 1: edition is not "));
+    let said = mistake(&format!("edition 2\nedition 2\n{HEADER}\n7000\n"));
+    assert!(said.starts_with("line 2, loss limit: edition is not "));
+
+    // A joined claim is for edition 2, and is not a risk's first.
+    for edition in ["", "edition 1\n"] {
+        let line = if edition.is_empty() { 3 } else { 4 };
+        assert_eq!(
+            mistake(&format!("{edition}{HEADER}\n7\n5 +6\n")),
+            format!("line {line}, claim 2 of risk 2: +6 is for edition 2")
+        );
+    }
+    for claims in ["+3000", "+3000 4000", "+0 +0"] {
+        let first = claims.split(' ').next().unwrap();
+        assert_eq!(
+            mistake(&format!("edition 2\n{HEADER}\n5 +6\n-\n{claims}\n")),
+            format!("line 5, claim 1 of risk 3: {first} has no claim before it in the risk")
+        );
+    }
+    let limit = "a whole number from 0 to 1048575 (dollars)";
+    for word in ["+", "+1048576", "++5", "+-5", "5+", "+x"] {
+        assert_eq!(
+            mistake(&format!("edition 2\n{HEADER}\n5 {word}\n")),
+            format!("line 3, claim 2 of risk 1: {word} is not {limit}")
+        );
+    }
+    // The lines after that of the edition are counted with it.
+    assert_eq!(
+        mistake(&format!("edition 2\n{HEADER}\n7000\n\n")),
+        "line 4, risk 2: a blank line; a risk without claims is a line with - alone"
+    );
+    assert_eq!(
+        mistake(&format!("edition 2\n{HEADER}\n")),
+        "line 3, risk 1: missing; a group has 1 to 255 risks"
+    );
+    let said = mistake("edition 2\n");
+    assert!(said.starts_with("line 2, loss limit: missing; "), "{said}");
+    let said = mistake("edition 2\n5000 10000 2000 1100 10500 0 900 950\n1\n");
+    assert!(said.starts_with("line 2, minimum mark: 950 is above "));
+}
+
+#[test]
 fn generated_groups_there_and_back() {
     let mut random = Random::new(1_930);
     let mut without_claims = 0;
@@ -27,7 +110,7 @@ fn generated_groups_there_and_back() {
         let sample = random.group();
         let text = print(&sample);
         assert_eq!(parse(text.as_bytes()).as_ref(), Ok(&sample));
-        let group = second_rater::read(&sample.file(), 255, 16_065).unwrap();
+        let group = second_rater::read(&sample.file(), 255, 16_065, 16_065).unwrap();
         assert_eq!(Sample::of(&group), sample);
         without_claims += sample.risks.iter().filter(|risk| risk.is_empty()).count();
     }
@@ -38,25 +121,43 @@ fn generated_groups_there_and_back() {
 #[test]
 fn limits_are_those_of_write() {
     let mut random = Random::new(1_931);
-    let mut taken = 0;
-    for _ in 0..4_000 {
-        let values = random.values();
-        let counted: usize = values.counts.iter().map(|&count| usize::from(count)).sum();
-        if counted != values.claims.len() {
-            // no text has other counts than its claims
+    let mut taken = [0; 2];
+    let mut joined_first = 0;
+    for _ in 0..6_000 {
+        let Values {
+            edition,
+            header,
+            counts,
+            claims,
+            joined,
+        } = random.values();
+        let counted: usize = counts.iter().map(|&count| usize::from(count)).sum();
+        let is_bit = |&bit: &u8| bit <= 1;
+        let of_text = (1..=2).contains(&edition)
+            && counted == claims.len()
+            && joined.len() == claims.len()
+            && joined.iter().all(is_bit)
+            && (edition == 2 || !joined.contains(&1));
+        if !of_text {
+            // no text has another edition, other counts than its claims or other bits
             continue;
         }
-        let written = second_rater::write(&values.header, &values.counts, &values.claims, 1 << 20);
         let sample = Sample::of(&second_rater::Group {
-            header: values.header,
-            counts: values.counts,
-            claims: values.claims,
+            edition,
+            header,
+            counts,
+            claims,
+            joined,
         });
+        let written = sample.values().written(1 << 20);
         let parsed = parse(print(&sample).as_bytes());
         assert_eq!(parsed.is_ok(), written.is_ok(), "{parsed:?}");
-        taken += usize::from(written.is_ok());
+        taken[edition as usize - 1] += usize::from(written.is_ok());
+        joined_first += usize::from(written == Err(19));
     }
-    assert!((1_000..3_000).contains(&taken), "{taken}");
+    let often = |times: &usize| (700..3_000).contains(times);
+    assert!(taken.iter().all(often), "{taken:?}");
+    assert!(joined_first > 50, "{joined_first}");
 }
 
 #[test]
@@ -131,7 +232,7 @@ fn minimum_mark_has_its_limit_in_the_maximum_mark() {
                     (header.maximum_mark, header.minimum_mark),
                     (maximum, minimum)
                 );
-                assert!(second_rater::read(&sample.file(), 1, 1).is_ok());
+                assert!(second_rater::read(&sample.file(), 1, 1, 1).is_ok());
             }
         }
     }
@@ -194,6 +295,6 @@ fn claims_and_risks_have_their_limits() {
     let said = parse(b"5000 10000 2000 1100 10500 0 900 200\n-\n7\xff\n").unwrap_err();
     assert_eq!(
         said.to_string(),
-        "line 3, text: not of digits, spaces and - alone"
+        "line 3, text: not of letters, digits, spaces, - and + alone"
     );
 }
