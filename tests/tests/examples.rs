@@ -1,8 +1,10 @@
 //! The example files are what their generator writes, and their expected lines are what the second
 //! rater says.
 
-use retro_tests::generator::{get, set, MARK_KIND, MAXIMUM_MARK, MINIMUM_MARK, STANDARD_PREMIUM};
-use retro_tests::samples::FOUR_RISKS_PRINTED;
+use retro_tests::generator::{
+    first_bits, get, set, MARK_KIND, MAXIMUM_MARK, MINIMUM_MARK, STANDARD_PREMIUM,
+};
+use retro_tests::samples::{FOUR_RISKS_PRINTED, SCAFFOLD_FILE, SCAFFOLD_PRINTED};
 use retro_tests::{examples, refused_example, second_rater, QUESTIONS_OF_A_FILE};
 use std::collections::BTreeMap;
 use std::path::Path;
@@ -76,19 +78,37 @@ fn example_of_question_18_fails_no_other() {
     assert_eq!((rated.lines[0].ratable, rated.billed), (0, 10));
 }
 
+/// The example of question 19 is the scaffold with one bit more, and fails no other.
+#[test]
+fn example_of_question_19_fails_no_other() {
+    let mut file = fs::read(refused_example(19)).unwrap();
+    let bits = first_bits(&file);
+    assert_eq!(bits.iter().map(|&bit| get(&file, bit)).sum::<u32>(), 1);
+    for bit in bits {
+        set(&mut file, bit, 0);
+    }
+    assert_eq!(file, SCAFFOLD_FILE);
+    let rated = second_rater::rate(&file, 12).unwrap();
+    assert_eq!(second_rater::print_rated(&rated), SCAFFOLD_PRINTED);
+}
+
 #[test]
 fn rated_examples_are_of_their_kind() {
     let read = |name: &str| {
         let file = fs::read(examples().join(name).with_extension("group")).unwrap();
-        second_rater::read(&file, 255, 16_065).unwrap()
+        second_rater::read(&file, 255, 16_065, 16_065).unwrap()
     };
     assert_eq!(read("four-risks").counts, [0, 2, 1, 3]);
     assert_eq!(read("ten-risks").counts, [1; 10]);
     assert_eq!(read("entry-ratio").header.mark_kind, 1);
     assert_eq!(read("no-limit").header.loss_limit, 0);
     assert_eq!(read("largest").counts, [63; 255]);
+    assert_eq!(read("scaffold").edition, 2);
+    assert_eq!(read("scaffold").joined, [0, 1, 0, 1, 0]);
     let four_risks = fs::read_to_string(examples().join("four-risks.expected")).unwrap();
     assert_eq!(four_risks, FOUR_RISKS_PRINTED);
+    let scaffold = fs::read_to_string(examples().join("scaffold.expected")).unwrap();
+    assert_eq!(scaffold, SCAFFOLD_PRINTED);
 }
 
 /// The premiums are column 5 of the table in section E of document 001, and their sum is its total.

@@ -1,7 +1,8 @@
 //! The program target/bin/retro, run on the example files, on generated files and on inputs of any
 //! length.
 
-use retro_tests::generator::Random;
+use retro_tests::generator::{get, Random, EDITION};
+use retro_tests::samples::largest_of_edition_2;
 use retro_tests::second_rater::Line;
 use retro_tests::{examples, program, second_rater, QUESTIONS_OF_A_FILE};
 use std::cmp::Ordering;
@@ -67,7 +68,7 @@ fn each_example() {
             run += 1;
         }
     }
-    assert_eq!(run, 17);
+    assert_eq!(run, 19);
 }
 
 #[test]
@@ -76,17 +77,30 @@ fn empty_input() {
 }
 
 #[test]
-fn inputs_longer_than_the_largest_file() {
-    let mut file = example("largest.group");
+fn the_largest_file_of_edition_2() {
+    let file = largest_of_edition_2().file();
     assert_eq!(file.len(), second_rater::LARGEST_FILE);
-    for added in [0, 1, 0xff] {
-        file.truncate(second_rater::LARGEST_FILE);
-        file.push(added);
-        assert_eq!(printed(&file, "one-more"), "refused 8\n");
+    let lines = printed(&file, "largest-2");
+    assert!(lines.starts_with("group 255 "));
+    assert!(lines == expected(&file));
+}
+
+#[test]
+fn inputs_longer_than_the_largest_file() {
+    for (mut file, length) in [
+        (example("largest.group"), 40_370),
+        (largest_of_edition_2().file(), second_rater::LARGEST_FILE),
+    ] {
+        assert_eq!(file.len(), length);
+        for added in [0, 1, 0xff] {
+            file.truncate(length);
+            file.push(added);
+            assert_eq!(printed(&file, "one-more"), "refused 8\n");
+        }
+        // As long as 1 MB, answered as the whole file would be.
+        file.resize(1 << 20, 0);
+        assert_eq!(printed(&file, "megabyte"), "refused 8\n");
     }
-    // As long as 1 MB, answered as the whole file would be.
-    file.resize(1 << 20, 0);
-    assert_eq!(printed(&file, "megabyte"), "refused 8\n");
     let mut file = example("four-risks.group");
     file.resize(1 << 20, 0);
     assert_eq!(printed(&file, "megabyte-of-four"), "refused 8\n");
@@ -101,7 +115,13 @@ fn inputs_longer_than_the_largest_file() {
 
 #[test]
 fn input_through_a_pipe_in_small_parts() {
-    for (name, part) in [("four-risks", 5), ("largest", 4_099), ("refused-09", 1)] {
+    for (name, part) in [
+        ("four-risks", 5),
+        ("largest", 4_099),
+        ("scaffold", 3),
+        ("refused-09", 1),
+        ("refused-19", 2),
+    ] {
         let file = example(&format!("{name}.group"));
         let mut child = Command::new(program())
             .stdin(Stdio::piped())
@@ -148,11 +168,10 @@ fn compare_generated(first: u64, step: u64) -> Counts {
         };
         let lines = match second_rater::rate(&file, 4 * second_rater::MOST_RISKS) {
             Ok(rated) => {
-                count("rated".to_string());
-                rated
-                    .lines
-                    .iter()
-                    .for_each(|line| count(kind(line).to_string()));
+                let edition = get(&file, EDITION);
+                count(format!("rated in edition {edition}"));
+                let in_edition = |line| format!("{} in edition {edition}", kind(line));
+                rated.lines.iter().for_each(|line| count(in_edition(line)));
                 second_rater::print_rated(&rated)
             }
             Err(question) => {
@@ -183,13 +202,17 @@ fn generated_files() {
             }
         }
     });
-    // twelve refusals, rated, and six kinds of lines, each often enough
+    // thirteen refusals, rated in either edition, and six kinds of lines in either edition, each
+    // often enough
     println!("{counts:#?}");
-    assert_eq!(counts.len(), 19, "{counts:#?}");
+    assert_eq!(counts.len(), 27, "{counts:#?}");
     for question in QUESTIONS_OF_A_FILE {
         let refused = format!("refused {question}");
         assert!(counts.contains_key(&refused), "{counts:#?}");
     }
     assert!(counts.values().all(|&times| times >= LEAST), "{counts:#?}");
-    assert!(counts["rated"] >= FILES / 4, "{counts:#?}");
+    for edition in [1, 2] {
+        let rated = counts[&format!("rated in edition {edition}")];
+        assert!(rated >= FILES / 8, "{counts:#?}");
+    }
 }

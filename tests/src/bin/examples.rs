@@ -6,11 +6,11 @@
 
 use retro_tests::calls;
 use retro_tests::generator::{
-    set, Random, CONVERSION, EDITION, HEADER, MAXIMUM_MARK, MINIMUM_MARK, RISKS, STANDARD_PREMIUM,
-    TAX,
+    first_bits, set, Random, CONVERSION, EDITION, HEADER, MAXIMUM_MARK, MINIMUM_MARK, RISKS,
+    STANDARD_PREMIUM, TAX,
 };
 use retro_tests::samples::{
-    crossed_marks, four_risks, one_claim_of_one, ten_risks, two_risks_of_ten, Sample,
+    crossed_marks, four_risks, one_claim_of_one, scaffold, ten_risks, two_risks_of_ten, Sample,
 };
 use retro_tests::second_rater::{Header, LARGEST_FILE};
 use std::path::PathBuf;
@@ -31,9 +31,15 @@ fn main() -> io::Result<()> {
 fn written(sample: &Sample) -> Vec<u8> {
     let mut file = vec![0; LARGEST_FILE];
     let mut length = 0;
-    let header = sample.header.into();
-    let (counts, claims) = (sample.counts(), sample.claims());
-    let answer = calls::write(header, &counts, &claims, &mut file, &mut length);
+    let answer = calls::write(
+        sample.edition(),
+        sample.header.into(),
+        &sample.counts(),
+        &sample.claims(),
+        &sample.joined(),
+        &mut file,
+        &mut length,
+    );
     assert_eq!(answer, 0, "Write refused the example with {answer}");
     file.truncate(length);
     file
@@ -47,6 +53,7 @@ fn rated() -> Vec<(&'static str, Vec<u8>)> {
         ("entry-ratio", written(&entry_ratio())),
         ("no-limit", written(&no_limit())),
         ("largest", written(&largest())),
+        ("scaffold", written(&scaffold())),
     ]
 }
 
@@ -54,7 +61,7 @@ fn rated() -> Vec<(&'static str, Vec<u8>)> {
 fn refused() -> Vec<(&'static str, Vec<u8>)> {
     vec![
         ("refused-01", damaged(|file| file.truncate(HEADER - 1))),
-        ("refused-02", damaged(|file| set(file, EDITION, 2))),
+        ("refused-02", damaged(|file| set(file, EDITION, 3))),
         ("refused-03", damaged(|file| set(file, STANDARD_PREMIUM, 0))),
         ("refused-04", damaged(|file| set(file, CONVERSION, 999))),
         ("refused-05", damaged(|file| set(file, TAX, 9_999))),
@@ -63,6 +70,7 @@ fn refused() -> Vec<(&'static str, Vec<u8>)> {
         ("refused-07", damaged(no_risks)),
         ("refused-08", damaged(|file| file.push(0))),
         ("refused-09", fill_bit_set()),
+        ("refused-19", first_claim_joined()),
         ("refused-10", written(&no_losses())),
         ("refused-12", written(&two_risks_of_ten(2_000))),
     ]
@@ -102,6 +110,14 @@ fn fill_bit_set() -> Vec<u8> {
     file
 }
 
+/// The scaffold's file with the bit of the last risk's first claim set.
+fn first_claim_joined() -> Vec<u8> {
+    let mut file = written(&scaffold());
+    let bits = first_bits(&file);
+    set(&mut file, bits[bits.len() - 1], 1);
+    file
+}
+
 /// The four-risk group with all claims 0.
 fn no_losses() -> Sample {
     let mut sample = four_risks();
@@ -132,6 +148,7 @@ fn entry_ratio() -> Sample {
             vec![7_775],
             vec![31_500, 26_250, 18_000],
         ],
+        joined: None,
     }
 }
 
@@ -155,6 +172,7 @@ fn no_limit() -> Sample {
             vec![],
             vec![18_600, 22_300, 9_450],
         ],
+        joined: None,
     }
 }
 
@@ -178,5 +196,6 @@ fn largest() -> Sample {
             minimum_mark: 250,
         },
         risks,
+        joined: None,
     }
 }
