@@ -3,6 +3,9 @@
  * benchmark measures retro_rate, retro_read and retro_write. They are part of the tests; nothing of
  * them is shipped.
  *
+ * They take and make files of edition 1 alone, in which each claim has 20 bits and is an accident
+ * of its own.
+ *
  * They are given only what the library accepts: they ask no question and test no length. A claim
  * takes one 64-bit load or store, one byte swap and two shifts. They load up to PEERS_SPARE bytes
  * past a file's end, and the writer sets some of these to 0, so the memory of a file goes on for as
@@ -41,11 +44,12 @@ typedef struct tuned_rated {
 /* Rates a file that retro_rate accepts and stores four bytes for each risk in `premiums`. */
 tuned_rated tuned_rate(const uint8_t *restrict file, uint8_t *restrict premiums);
 
-/* Takes a file apart that retro_read accepts and stores as many counts and claims as it has. */
+/* Takes a file apart that retro_read accepts and stores as many counts and claims as it has, and a
+   0 in `joined` for each claim, as retro_read does for edition 1. */
 retro_group tuned_read(const uint8_t *restrict file, uint8_t *restrict counts,
-                       uint32_t *restrict claims);
+                       uint32_t *restrict claims, uint8_t *restrict joined);
 
-/* Makes the file of values that retro_write accepts and gives its length. */
+/* Makes the file of values that retro_write accepts for edition 1 and gives its length. */
 size_t tuned_write(retro_header header, const uint8_t *restrict counts, size_t risks,
                    const uint32_t *restrict claims, uint8_t *restrict file);
 
@@ -96,7 +100,7 @@ static inline uint64_t take(const uint8_t *file, size_t *place, unsigned width)
    first count. */
 static inline retro_group take_header(const uint8_t *file, size_t *place)
 {
-    retro_group group = {.refused = 0};
+    retro_group group = {.refused = 0, .edition = 1};
     *place = EDITION_WIDTH;
     group.loss_limit = (uint32_t)take(file, place, LOSS_LIMIT_WIDTH);
     group.standard_premium = (uint32_t)take(file, place, STANDARD_PREMIUM_WIDTH);

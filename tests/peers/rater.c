@@ -1,4 +1,4 @@
-/* The tuned rater: steps 1 to 6 of document 01, in 64-bit arithmetic. */
+/* The tuned rater: steps 1 to 6 of document 01 for a file of edition 1, in 64-bit arithmetic. */
 #include "peers.h"
 
 /* The lesser of two numbers. */

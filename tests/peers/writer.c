@@ -1,4 +1,4 @@
-/* The tuned writer: the file of header values, counts and claims. */
+/* The tuned writer: the file of edition 1 of header values, counts and claims. */
 #include "peers.h"
 
 /* Stores the header, of which the expense provision has its last two bits in the second word. */

@@ -3,8 +3,8 @@
 
 use crate::calls::{self, Numbers};
 use crate::generator::Random;
-use crate::peers::{self, AcceptedFile, AcceptedGroup, Claims, Counts, Form, Premiums, Written};
-use crate::samples::{stock, Sample};
+use crate::peers::{self, AcceptedFile, AcceptedGroup, Form, Premiums, Written};
+use crate::samples::{stock, Sample, Values};
 use crate::second_rater::{self, Header, LARGEST_FILE, MOST_RISKS};
 use crate::straightforward;
 use std::fmt::Debug;
@@ -45,6 +45,22 @@ impl Call {
             Call::SecondRatersGuaranteed => "second rater's Guaranteed",
         }
     }
+
+    /// Whether the call is of a peer, which takes edition 1 alone.
+    pub fn is_of_a_peer(self) -> bool {
+        matches!(
+            self,
+            Call::TunedRater(_) | Call::TunedReader(_) | Call::TunedWriter(_)
+        )
+    }
+}
+
+/// How many claims of a group in edition 2 belong to the accident of the claim before.
+#[derive(Clone, Copy, Debug, PartialEq, Eq)]
+pub enum Joined {
+    None,
+    AboutAQuarter,
+    AboutHalf,
 }
 
 /// A group of so many risks of so many claims each, with a loss limit and entry ratio marks.
@@ -65,28 +81,65 @@ pub fn group(risks: usize, claims: usize) -> Sample {
         risks: (0..risks)
             .map(|_| (0..claims).map(|_| claim()).collect())
             .collect(),
+        joined: None,
+    }
+}
+
+/// The same claims in edition 2, of which these are joined, at random.
+pub fn group_of_edition_2(risks: usize, claims: usize, joined: Joined) -> Sample {
+    let mut random = Random::new(4);
+    let mut joins = |claim: usize| match joined {
+        _ if claim == 0 => false,
+        Joined::None => false,
+        Joined::AboutAQuarter => random.one_in(4),
+        Joined::AboutHalf => random.one_in(2),
+    };
+    let mut of_risk = || (0..claims).map(|claim| u8::from(joins(claim))).collect();
+    Sample {
+        joined: Some((0..risks).map(|_| of_risk()).collect()),
+        ..group(risks, claims)
     }
 }
 
 /// A group as it is handed to the calls: its file, and its values for Write.
 pub struct Case {
-    file: AcceptedFile,
-    values: AcceptedGroup,
+    file: Vec<u8>,
+    values: Values,
+    /// The same for the peers, in edition 1.
+    for_peers: Option<(AcceptedFile, AcceptedGroup)>,
 }
 
 impl Case {
     /// The group of `group`, which must be accepted.
     pub fn new(risks: usize, claims: usize) -> Case {
         let sample = group(risks, claims);
+        let file = sample.file();
+        let accepted = AcceptedGroup::new(sample.header, &sample.counts(), &sample.claims());
         Case {
-            file: AcceptedFile::new(&sample.file()),
-            values: AcceptedGroup::new(sample.header, &sample.counts(), &sample.claims()),
+            values: sample.values(),
+            for_peers: Some((AcceptedFile::new(&file), accepted)),
+            file,
+        }
+    }
+
+    /// The group of `group_of_edition_2`, which no peer takes.
+    pub fn of_edition_2(risks: usize, claims: usize, joined: Joined) -> Case {
+        let sample = group_of_edition_2(risks, claims, joined);
+        Case {
+            file: sample.file(),
+            values: sample.values(),
+            for_peers: None,
         }
     }
 
     /// The group file.
     pub fn file(&self) -> &[u8] {
-        self.file.file()
+        &self.file
+    }
+
+    /// The file and the values for a peer.
+    fn for_peers(&self) -> &(AcceptedFile, AcceptedGroup) {
+        self.for_peers.as_ref().expect("a peer takes edition 1")
     }
 }
 
@@ -94,8 +147,9 @@ impl Case {
 pub struct Desk {
     premiums: Box<Premiums>,
     differences: Vec<i64>,
-    counts: Box<Counts>,
-    claims: Box<Claims>,
+    counts: Box<peers::Counts>,
+    claims: Box<peers::Claims>,
+    joined: Box<peers::Joined>,
     file: Box<Written>,
 }
 
@@ -112,6 +166,7 @@ impl Desk {
             differences: vec![0; MOST_RISKS],
             counts: zeros(),
             claims: zeros(),
+            joined: zeros(),
             file: zeros(),
         }
     }
@@ -122,7 +177,8 @@ impl Desk {
             Call::Rate => self.rate(case),
             Call::TunedRater(form) => {
                 let premiums = black_box(&mut *self.premiums);
-                black_box(peers::rate(form, black_box(&case.file), premiums));
+                let (file, _) = case.for_peers();
+                black_box(peers::rate(form, black_box(file), premiums));
                 true
             }
             Call::StraightforwardRater => {
@@ -142,27 +198,39 @@ impl Desk {
                 answer == 0
             }
             Call::Read => {
-                let (counts, claims) = black_box((&mut self.counts[..], &mut self.claims[..]));
-                let group = calls::read(black_box(case.file()), counts, claims);
+                let counts = black_box(&mut self.counts[..]);
+                let claims = black_box(&mut self.claims[..]);
+                let joined = black_box(&mut self.joined[..]);
+                let group = calls::read(black_box(case.file()), counts, claims, joined);
                 black_box(group).refused == 0
             }
             Call::TunedReader(form) => {
-                let (counts, claims) = black_box((&mut *self.counts, &mut *self.claims));
-                black_box(peers::read(form, black_box(&case.file), counts, claims));
+                let counts = black_box(&mut *self.counts);
+                let claims = black_box(&mut *self.claims);
+                let joined = black_box(&mut *self.joined);
+                let (file, _) = case.for_peers();
+                black_box(peers::read(form, black_box(file), counts, claims, joined));
                 true
             }
             Call::Write => {
                 let values = black_box(&case.values);
-                let (counts, claims) = (values.counts(), values.claims());
-                let file = black_box(&mut self.file[..LARGEST_FILE]);
                 let mut length = 0;
-                let answer = calls::write(values.header(), counts, claims, file, &mut length);
+                let answer = calls::write(
+                    values.edition,
+                    values.header.into(),
+                    &values.counts,
+                    &values.claims,
+                    &values.joined,
+                    black_box(&mut self.file[..LARGEST_FILE]),
+                    &mut length,
+                );
                 black_box(length);
                 answer == 0
             }
             Call::TunedWriter(form) => {
                 let file = black_box(&mut *self.file);
-                black_box(peers::write(form, black_box(&case.values), file));
+                let (_, values) = case.for_peers();
+                black_box(peers::write(form, black_box(values), file));
                 true
             }
             Call::Guaranteed => self.guaranteed(case),

@@ -1,11 +1,15 @@
 //! The peers of the benchmark: a tuned rater, a tuned reader and a tuned writer in C (tests/peers).
-//! They are for comparing speed; nothing of them is shipped. Each is there in two forms.
+//! They are for comparing speed; nothing of them is shipped. Each is there in two forms. They take
+//! and make files of edition 1 alone, of which the reader gives a bit of 0 for each claim, as Read
+//! does.
 //!
 //! A peer asks no question and tests no length. So what it is given is a type that is made only of
 //! what the second rater accepts, and what it stores to has room for the largest group: with that
 //! asked and settled before, a call makes no check of its own.
 
 use crate::calls::{Group, Header};
+use crate::generator::{get, EDITION};
+use crate::samples::Values;
 use crate::second_rater::{self, LARGEST_FILE, MOST_CLAIMS_PER_RISK, MOST_RISKS};
 use crate::straightforward::Rated;
 
@@ -18,6 +22,8 @@ pub type Premiums = [u8; 4 * MOST_RISKS];
 pub type Counts = [u8; MOST_RISKS];
 /// Room for the claims of every group.
 pub type Claims = [u32; MOST_RISKS * MOST_CLAIMS_PER_RISK];
+/// Room for the bits of every group.
+pub type Joined = [u8; MOST_RISKS * MOST_CLAIMS_PER_RISK];
 /// Room for every file and the spare bytes after it.
 pub type Written = [u8; LARGEST_FILE + SPARE];
 
@@ -58,23 +64,25 @@ pub mod raw {
     peer!(rate: tuned_rate, tuned_rate_with_vectors,
           fn(file: *const u8, premiums: *mut u8) -> Rated);
     peer!(read: tuned_read, tuned_read_with_vectors,
-          fn(file: *const u8, counts: *mut u8, claims: *mut u32) -> Group);
+          fn(file: *const u8, counts: *mut u8, claims: *mut u32, joined: *mut u8) -> Group);
     peer!(write: tuned_write, tuned_write_with_vectors,
           fn(header: Header, counts: *const u8, risks: usize, claims: *const u32,
              file: *mut u8) -> usize);
 }
 
-/// A file that Rate accepts, and so does Read, with spare bytes after it.
+/// A file of edition 1 that Rate accepts, and so does Read, with spare bytes after it.
 pub struct AcceptedFile {
     bytes: Vec<u8>,
 }
 
 impl AcceptedFile {
-    /// The file of these bytes. Panics where the second rater refuses it.
+    /// The file of these bytes. Panics where the second rater refuses it or its edition is another.
     pub fn new(file: &[u8]) -> AcceptedFile {
         if let Err(question) = second_rater::rate(file, 4 * MOST_RISKS) {
             panic!("no file for a peer: refused {question}");
         }
+        let edition = get(file, EDITION);
+        assert_eq!(edition, 1, "no file for a peer: edition {edition}");
         let mut bytes = file.to_vec();
         bytes.resize(file.len() + SPARE, 0);
         AcceptedFile { bytes }
@@ -86,7 +94,7 @@ impl AcceptedFile {
     }
 }
 
-/// The values of a group that Write accepts.
+/// The values of a group that Write accepts for edition 1.
 pub struct AcceptedGroup {
     header: Header,
     counts: Vec<u8>,
@@ -96,7 +104,8 @@ pub struct AcceptedGroup {
 impl AcceptedGroup {
     /// The group of these values. Panics where the second rater refuses to write it.
     pub fn new(header: second_rater::Header, counts: &[u8], claims: &[u32]) -> AcceptedGroup {
-        if let Err(question) = second_rater::write(&header, counts, claims, LARGEST_FILE) {
+        let values = Values::of_edition_1(&header, counts, claims);
+        if let Err(question) = values.written(LARGEST_FILE) {
             panic!("no group for a peer: refused {question}");
         }
         AcceptedGroup {
@@ -104,18 +113,6 @@ impl AcceptedGroup {
             counts: counts.to_vec(),
             claims: claims.to_vec(),
         }
-    }
-
-    pub fn header(&self) -> Header {
-        self.header
-    }
-
-    pub fn counts(&self) -> &[u8] {
-        &self.counts
-    }
-
-    pub fn claims(&self) -> &[u32] {
-        &self.claims
     }
 }
 
@@ -125,16 +122,23 @@ pub fn rate(form: Form, file: &AcceptedFile, premiums: &mut Premiums) -> Rated {
     unsafe { raw::rate(form)(file.bytes.as_ptr(), premiums.as_mut_ptr()) }
 }
 
-/// The tuned reader: the number of risks and the header values, with the counts and the claims at
-/// the start of the buffers.
-pub fn read(form: Form, file: &AcceptedFile, counts: &mut Counts, claims: &mut Claims) -> Group {
-    // SAFETY: the file is accepted and has its spare bytes, and every group's counts and claims
-    // fit.
+/// The tuned reader: the number of risks, the header values and edition 1, with the counts, the
+/// claims and the bits, which are all 0, at the start of the buffers.
+pub fn read(
+    form: Form,
+    file: &AcceptedFile,
+    counts: &mut Counts,
+    claims: &mut Claims,
+    joined: &mut Joined,
+) -> Group {
+    // SAFETY: the file is accepted and has its spare bytes, and every group's counts, claims and
+    // bits fit.
     unsafe {
         raw::read(form)(
             file.bytes.as_ptr(),
             counts.as_mut_ptr(),
             claims.as_mut_ptr(),
+            joined.as_mut_ptr(),
         )
     }
 }

@@ -1,4 +1,5 @@
-//! A straightforward rater for Rate alone, with 64-bit arithmetic: the benchmark's baseline.
+//! A straightforward rater for Rate alone, with 64-bit arithmetic, of either edition: the
+//! benchmark's baseline.
 
 #![forbid(unsafe_code)]
 
@@ -24,6 +25,16 @@ struct BitReader<'a> {
     at: usize,
 }
 
+/// A risk of edition 2.
+struct Risk {
+    /// L, the sum of claims.
+    total: u64,
+    /// A, the sum of accidents, each cut to the limit.
+    limited: u64,
+    /// Whether the first claim has its bit set.
+    first_joined: bool,
+}
+
 impl BitReader<'_> {
     /// The next field, of 1 to 32 bits. Bits past the end are 0.
     #[inline]
@@ -44,6 +55,30 @@ impl BitReader<'_> {
         let mut eight = [0; 8];
         eight[..rest.len()].copy_from_slice(rest);
         u64::from_be_bytes(eight)
+    }
+
+    /// The next risk's claims in edition 2, each with its bit before it.
+    fn accidents(&mut self, count: u64, limit: u64) -> Risk {
+        let mut risk = Risk {
+            total: 0,
+            limited: 0,
+            first_joined: false,
+        };
+        // the sum of the accident that the claim before belongs to
+        let mut accident = 0;
+        for k in 0..count {
+            let both = self.take(21);
+            let (joined, claim) = (both >> 20 == 1, both & 0xf_ffff);
+            risk.total += claim;
+            risk.first_joined |= joined && k == 0;
+            if !joined {
+                risk.limited += accident.min(limit);
+                accident = 0;
+            }
+            accident += claim;
+        }
+        risk.limited += accident.min(limit);
+        risk
     }
 
     /// Bits between the place and the end; negative where the place is past it.
@@ -70,7 +105,7 @@ pub fn rate(file: &[u8], premiums: &mut [u8]) -> Result<Rated, u32> {
     let minimum_mark = reader.take(13);
     let risks = reader.take(8);
     let spare = reader.take(1);
-    if edition != 1 || spare != 0 {
+    if !(1..=2).contains(&edition) || spare != 0 {
         return Err(2);
     }
     if standard_premium < 1 {
@@ -98,21 +133,30 @@ pub fn rate(file: &[u8], premiums: &mut [u8]) -> Result<Rated, u32> {
     } else {
         loss_limit
     };
+    let width = if edition == 2 { 21 } else { 20 };
     let mut limited = [0u64; MOST_RISKS];
     let limited = &mut limited[..risks as usize];
     let mut sum_total = 0;
+    let mut first_joined = false;
     for limited in limited.iter_mut() {
         let count = reader.take(6);
-        if reader.left() < 20 * count as i64 {
+        if reader.left() < width * count as i64 {
             return Err(8);
         }
-        let mut sum = 0;
-        for _ in 0..count {
-            let claim = reader.take(20);
-            sum_total += claim;
-            sum += claim.min(limit);
-        }
-        *limited = sum;
+        *limited = if edition == 2 {
+            let risk = reader.accidents(count, limit);
+            sum_total += risk.total;
+            first_joined |= risk.first_joined;
+            risk.limited
+        } else {
+            let mut sum = 0;
+            for _ in 0..count {
+                let claim = reader.take(20);
+                sum_total += claim;
+                sum += claim.min(limit);
+            }
+            sum
+        };
     }
     let fill = reader.left();
     if !(0..8).contains(&fill) {
@@ -120,6 +164,9 @@ pub fn rate(file: &[u8], premiums: &mut [u8]) -> Result<Rated, u32> {
     }
     if fill > 0 && reader.take(fill as u32) != 0 {
         return Err(9);
+    }
+    if first_joined {
+        return Err(19);
     }
     let sum_limited: u64 = limited.iter().sum();
     if sum_limited < 1 {

@@ -2,9 +2,9 @@
 //! Which call it makes shows in the count alone: of another function `--toggle-collect` counts
 //! nothing.
 
-use retro_tests::desk;
+use retro_tests::desk::{self, Joined};
 use retro_tests::samples::AMPLE;
-use retro_tests::second_rater::{self, MOST_CLAIMS_PER_RISK};
+use retro_tests::second_rater::{self, LARGEST_FILE, MOST_CLAIMS_PER_RISK, MOST_RISKS};
 use std::process::{Command, Output};
 
 fn once(arguments: &[&str]) -> Output {
@@ -36,6 +36,22 @@ fn each_call() {
 }
 
 #[test]
+fn each_call_in_edition_2() {
+    for call in ["rate", "table", "read", "write", "guaranteed"] {
+        for joined in ["none-joined", "quarter-joined", "half-joined"] {
+            for sizes in [&[][..], &["16"], &["1", "1"], &["255", "63"]] {
+                let output = once(&[&[call, joined], sizes].concat());
+                assert!(
+                    output.status.success(),
+                    "{call} {joined} {sizes:?}: {output:?}"
+                );
+                assert!(output.stdout.is_empty() && output.stderr.is_empty());
+            }
+        }
+    }
+}
+
+#[test]
 fn wrong_usage() {
     for (arguments, mistake) in [
         (&[][..], "no call is named\n"),
@@ -55,12 +71,36 @@ fn wrong_usage() {
             "64 is not a number of claims from 1 to 63\n",
         ),
         (&["rate", "16", "63", "1"], "1 is an argument too many\n"),
+        (
+            &["rate", "joined"],
+            "joined is not a number of risks from 1 to 255\n",
+        ),
+        (
+            &["rate", "16", "half-joined"],
+            "half-joined is not a number of claims from 1 to 63\n",
+        ),
+        (
+            &["rate", "half-joined", "0"],
+            "0 is not a number of risks from 1 to 255\n",
+        ),
+        (
+            &["rate", "half-joined", "16", "63", "1"],
+            "1 is an argument too many\n",
+        ),
+        (
+            &["tuned-rater", "none-joined"],
+            "tuned-rater takes edition 1 alone\n",
+        ),
+        (
+            &["tuned-reader-with-vectors", "half-joined", "16"],
+            "tuned-reader-with-vectors takes edition 1 alone\n",
+        ),
     ] {
         let output = once(arguments);
         assert_eq!(output.status.code(), Some(2), "{arguments:?}");
         assert!(output.stdout.is_empty());
         let said = String::from_utf8(output.stderr).unwrap();
-        let usage = "usage: once CALL [RISKS [CLAIMS]], where CALL is rate | table | ";
+        let usage = "usage: once CALL [JOINED] [RISKS [CLAIMS]], where CALL is rate | table | ";
         assert!(said.starts_with(&format!("{mistake}{usage}")), "{said}");
     }
 }
@@ -70,9 +110,31 @@ fn wrong_usage() {
 fn groups_are_rated() {
     for risks in [1, 2, 3, 16, 255] {
         for claims in 1..=MOST_CLAIMS_PER_RISK {
-            let file = desk::group(risks, claims).file();
-            let rated = second_rater::rate(&file, AMPLE);
-            assert!(rated.is_ok(), "{risks} risks of {claims} claims: {rated:?}");
+            let of_edition_2 = [Joined::None, Joined::AboutAQuarter, Joined::AboutHalf]
+                .map(|joined| desk::group_of_edition_2(risks, claims, joined));
+            for sample in [desk::group(risks, claims)].iter().chain(&of_edition_2) {
+                let rated = second_rater::rate(&sample.file(), AMPLE);
+                assert!(rated.is_ok(), "{risks} risks of {claims} claims: {rated:?}");
+            }
         }
+    }
+}
+
+/// The largest groups have the same dollars, and about as many joined claims as their names say.
+#[test]
+fn largest_groups_of_either_edition() {
+    let most = (MOST_RISKS, MOST_CLAIMS_PER_RISK);
+    let of_edition_1 = desk::group(most.0, most.1);
+    for (joined, least, greatest) in [
+        (Joined::None, 0, 0),
+        (Joined::AboutAQuarter, 3_700, 4_300),
+        (Joined::AboutHalf, 7_600, 8_300),
+    ] {
+        let sample = desk::group_of_edition_2(most.0, most.1, joined);
+        assert_eq!(sample.file().len(), LARGEST_FILE);
+        assert_eq!(sample.claims(), of_edition_1.claims());
+        assert_eq!(sample.header, of_edition_1.header);
+        let set = sample.joined().iter().filter(|&&bit| bit == 1).count();
+        assert!((least..=greatest).contains(&set), "{joined:?}: {set}");
     }
 }

@@ -1,12 +1,14 @@
-//! The benchmark's peers give what the second rater gives, so that the times are of the same work,
-//! and touch no byte that they may not. All of it holds in both forms.
+//! The benchmark's peers give what the second rater gives on files of edition 1, which alone they
+//! take, so that the times are of the same work, and touch no byte that they may not. All of it
+//! holds in both forms.
 
 use retro_tests::calls::Group;
-use retro_tests::generator::{bits, Random};
+use retro_tests::generator::{bits, get, Random, EDITION};
 use retro_tests::guard::{Guarded, Place, PLACES};
 use retro_tests::peers::{self, raw, AcceptedFile, AcceptedGroup, Form, FORMS, SPARE};
 use retro_tests::samples::{
-    crossed_marks, four_risks, largest, one_claim_of_one, rated_groups, Sample, AMPLE,
+    crossed_marks, four_risks, largest, one_claim_of_one, rated_groups, rated_groups_of_edition_2,
+    Sample, AMPLE,
 };
 use retro_tests::second_rater::{self, Header, LARGEST_FILE, MOST_CLAIMS_PER_RISK, MOST_RISKS};
 use retro_tests::straightforward::Rated;
@@ -41,7 +43,8 @@ fn premium_bytes(rated: &second_rater::Rated) -> Vec<u8> {
 
 /// What Read answers to the file of this group.
 fn answer(group: &second_rater::Group) -> Group {
-    Group::given(group.counts.len() as u32, group.header.into())
+    let n = group.counts.len() as u32;
+    Group::given(group.edition, n, group.header.into())
 }
 
 /// A peer's form and the file that it is called for.
@@ -69,6 +72,7 @@ struct Held {
     premiums: Guarded<u8>,
     counts: Guarded<u8>,
     claims: Guarded<u32>,
+    joined: Guarded<u8>,
 }
 
 impl Held {
@@ -78,6 +82,7 @@ impl Held {
             premiums: Guarded::new(4 * MOST_RISKS),
             counts: Guarded::new(MOST_RISKS),
             claims: Guarded::new(MOST_RISKS * MOST_CLAIMS_PER_RISK),
+            joined: Guarded::new(MOST_RISKS * MOST_CLAIMS_PER_RISK),
         }
     }
 
@@ -109,15 +114,24 @@ impl Held {
                 let lent = self.file.copy(&bytes, place);
                 let counts = self.counts.slice(group.counts.len(), place);
                 let claims = self.claims.slice(group.claims.len(), place);
+                let joined = self.joined.slice(group.joined.len(), place);
                 counts.fill(PRESET);
                 claims.fill(PRESET_CLAIM);
-                let (to_counts, to_claims) = (counts.as_mut_ptr(), claims.as_mut_ptr());
+                joined.fill(PRESET);
                 // SAFETY: the second rater reads the file, which has its spare bytes, into as many
-                // counts and claims.
-                let given = unsafe { raw::read(form)(lent.as_ptr(), to_counts, to_claims) };
+                // counts, claims and bits.
+                let given = unsafe {
+                    raw::read(form)(
+                        lent.as_ptr(),
+                        counts.as_mut_ptr(),
+                        claims.as_mut_ptr(),
+                        joined.as_mut_ptr(),
+                    )
+                };
                 same(given, answer(group), "header", called);
                 same(&*counts, &group.counts[..], "counts", called);
                 same(&*claims, &group.claims[..], "claims", called);
+                same(&*joined, &group.joined[..], "bits", called);
                 same(&*lent, &bytes[..], "file after the call", called);
             }
         }
@@ -155,7 +169,7 @@ impl Held {
     /// All three on a file that Rate accepts and on its values. Gives what the second rater gives.
     fn all(&mut self, file: &[u8]) -> (second_rater::Group, second_rater::Rated) {
         let rated = second_rater::rate(file, AMPLE).expect("a file that is rated");
-        let group = second_rater::read(file, AMPLE, AMPLE).expect("a file that is rated");
+        let group = second_rater::read(file, AMPLE, AMPLE, AMPLE).expect("a file that is rated");
         self.rate(file, &rated);
         self.read(file, &group);
         self.write(&group.header, &group.counts, &group.claims, file);
@@ -175,6 +189,7 @@ fn as_in_the_benchmark(form: Form, sample: &Sample) {
     let file = sample.file();
     let called = (form, &file[..]);
     let (mut counts, mut claims) = ([PRESET; MOST_RISKS], [PRESET_CLAIM; 16_065]);
+    let mut joined = [PRESET; 16_065];
     let (mut premiums, mut written) = ([PRESET; 1_020], [PRESET; LARGEST_FILE + SPARE]);
 
     let accepted = AcceptedFile::new(&file);
@@ -185,13 +200,15 @@ fn as_in_the_benchmark(form: Form, sample: &Sample) {
     let expected = then_preset(&premium_bytes(&rated), PRESET, premiums.len());
     same(&premiums[..], &expected[..], "premiums", called);
 
-    let group = second_rater::read(&file, AMPLE, AMPLE).unwrap();
-    let given = peers::read(form, &accepted, &mut counts, &mut claims);
+    let group = second_rater::read(&file, AMPLE, AMPLE, AMPLE).unwrap();
+    let given = peers::read(form, &accepted, &mut counts, &mut claims, &mut joined);
     same(given, answer(&group), "header", called);
     let expected = then_preset(&group.counts, PRESET, counts.len());
     same(&counts[..], &expected[..], "counts", called);
     let expected = then_preset(&group.claims, PRESET_CLAIM, claims.len());
     same(&claims[..], &expected[..], "claims", called);
+    let expected = then_preset(&group.joined, PRESET, joined.len());
+    same(&joined[..], &expected[..], "bits", called);
 
     let values = AcceptedGroup::new(sample.header, &sample.counts(), &sample.claims());
     let length = peers::write(form, &values, &mut written);
@@ -265,7 +282,7 @@ fn marks(group: &second_rater::Group) -> (u32, bool) {
 
 /// The bits that fill the last byte of a group's file.
 fn fill_bits(group: &second_rater::Group) -> usize {
-    let end = bits(group.counts.len(), group.claims.len());
+    let end = bits(group.edition, group.counts.len(), group.claims.len());
     end.next_multiple_of(8) - end
 }
 
@@ -275,15 +292,18 @@ fn generated_files() {
     let mut random = Random::new(1_967);
     let mut seen = [0; KINDS.len()];
     let (mut rated_files, mut only_read) = (0, 0);
-    for _ in 0..12_000 {
+    for _ in 0..24_000 {
         let file = random.file();
+        if get(&file, EDITION) != 1 {
+            continue;
+        }
         if second_rater::rate(&file, AMPLE).is_ok() {
             let (group, rated) = held.all(&file);
             rated_files += 1;
             for (seen, (_, is_of)) in seen.iter_mut().zip(KINDS) {
                 *seen += u32::from(is_of(&group, &rated));
             }
-        } else if let Ok(group) = second_rater::read(&file, AMPLE, AMPLE) {
+        } else if let Ok(group) = second_rater::read(&file, AMPLE, AMPLE, AMPLE) {
             held.read(&file, &group);
             only_read += 1;
         }
@@ -302,11 +322,13 @@ fn generated_values() {
     let mut held = Held::new();
     let mut random = Random::new(1_968);
     let (mut written, mut not_rated) = (0, 0);
-    for _ in 0..8_000 {
+    for _ in 0..16_000 {
         let values = random.values();
-        let (header, counts, claims) = (&values.header, &values.counts, &values.claims);
-        if let Ok(file) = second_rater::write(header, counts, claims, AMPLE) {
-            held.write(header, counts, claims, &file);
+        if values.edition != 1 {
+            continue;
+        }
+        if let Ok(file) = values.written(AMPLE) {
+            held.write(&values.header, &values.counts, &values.claims, &file);
             written += 1;
             not_rated += u32::from(second_rater::rate(&file, AMPLE).is_err());
         }
@@ -316,7 +338,7 @@ fn generated_values() {
     assert!(not_rated >= 100, "{not_rated} files are not rated");
 }
 
-/// The folder's files that Rate accepts.
+/// The folder's files of edition 1 that Rate accepts.
 #[test]
 fn examples_that_are_rated() {
     let mut held = Held::new();
@@ -328,7 +350,7 @@ fn examples_that_are_rated() {
             .is_some_and(|extension| extension == "group")
         {
             let file = fs::read(path).unwrap();
-            if second_rater::rate(&file, AMPLE).is_ok() {
+            if get(&file, EDITION) == 1 && second_rater::rate(&file, AMPLE).is_ok() {
                 held.all(&file);
                 rated += 1;
             }
@@ -351,10 +373,7 @@ fn known_groups() {
         }
         lengths.push(file.len());
     }
-    assert_eq!(
-        lengths,
-        [34, 49, 21, 20, 23, LARGEST_FILE, 2_548, LARGEST_FILE]
-    );
+    assert_eq!(lengths, [34, 49, 21, 20, 23, 40_370, 2_548, 40_370]);
 }
 
 /// A risk of each number of claims, after 0 to 3 risks without claims, so that its claims begin at
@@ -389,14 +408,19 @@ fn each_number_of_risks() {
 
 /// A peer is not lent what it cannot take: the message of the panic names the question.
 fn not_taken<T>(taken: impl FnOnce() -> T + UnwindSafe, question: u32) {
-    let Err(panic) = catch_unwind(|| drop(taken())) else {
-        panic!("what fails question {question} is taken");
-    };
-    let message = panic.downcast_ref::<String>().unwrap();
+    let message = message_of(taken);
     assert!(
         message.ends_with(&format!("refused {question}")),
         "{message}"
     );
+}
+
+/// The message of a panic.
+fn message_of<T>(panics: impl FnOnce() -> T + UnwindSafe) -> String {
+    let Err(panic) = catch_unwind(|| drop(panics())) else {
+        panic!("what no peer can take is taken");
+    };
+    panic.downcast_ref::<String>().unwrap().clone()
 }
 
 #[test]
@@ -404,6 +428,18 @@ fn refused_files_are_not_taken() {
     for question in QUESTIONS_OF_A_FILE {
         let file = fs::read(refused_example(question)).unwrap();
         not_taken(|| AcceptedFile::new(&file), question);
+    }
+}
+
+#[test]
+fn files_of_edition_2_are_not_taken() {
+    for sample in rated_groups_of_edition_2() {
+        let file = sample.file();
+        let message = message_of(|| AcceptedFile::new(&file));
+        assert!(
+            message.contains("no file for a peer: edition 2"),
+            "{message}"
+        );
     }
 }
 

@@ -3,7 +3,7 @@
 
 use retro_tests::generator::Random;
 use retro_tests::held_calls::Call;
-use retro_tests::samples::largest;
+use retro_tests::samples::{largest, largest_of_edition_2};
 use retro_tests::{second_rater, straightforward};
 
 /// Holds the straightforward rater to the second rater on one file. Gives the answer.
@@ -35,7 +35,7 @@ fn compare(file: &[u8], room: usize) -> u32 {
 #[test]
 fn generated_files() {
     let mut random = Random::new(1_966);
-    let mut given = [0; 19];
+    let mut given = [0; 20];
     for _ in 0..20_000 {
         let file = random.file();
         let n = file.get(14..16).map_or(0, |two| {
@@ -50,10 +50,11 @@ fn generated_files() {
 }
 
 #[test]
-fn the_largest_file_and_its_prefixes() {
-    let file = largest().file();
-    assert_eq!(compare(&file, 1_020), 0);
-    for len in (0..40).chain((40..file.len()).step_by(991)) {
-        assert_eq!(compare(&file[..len], 1_020), if len < 16 { 1 } else { 8 });
+fn the_largest_files_and_their_prefixes() {
+    for file in [largest().file(), largest_of_edition_2().file()] {
+        assert_eq!(compare(&file, 1_020), 0);
+        for len in (0..40).chain((40..file.len()).step_by(991)) {
+            assert_eq!(compare(&file[..len], 1_020), if len < 16 { 1 } else { 8 });
+        }
     }
 }

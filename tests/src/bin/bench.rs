@@ -6,7 +6,7 @@
 //! same buffers, which are not cleared between runs. The runs of the calls take turns. A run is as
 //! many calls as take about a millisecond, and its time is divided by their number.
 
-use retro_tests::desk::{Call, Case, Desk};
+use retro_tests::desk::{Call, Case, Desk, Joined};
 use retro_tests::peers::Form::{ClaimByClaim, WithVectors};
 use retro_tests::second_rater::{MOST_CLAIMS_PER_RISK, MOST_RISKS};
 use std::time::Instant;
@@ -14,31 +14,82 @@ use std::time::Instant;
 const RUNS: usize = 101;
 const UNCOUNTED: usize = 11;
 
-/// The numbers of risks of the two groups. Each risk has 63 claims.
-const FEW: usize = 16;
-const MOST: usize = MOST_RISKS;
-
-/// What is measured: a call, and the number of risks of its group.
+/// The groups. Each risk has 63 claims, and those of edition 2 have the dollars of that of edition
+/// 1 with as many risks.
 #[derive(Clone, Copy, PartialEq)]
-struct Measured(Call, usize);
+enum Of {
+    /// 16 risks, or all 255, in edition 1.
+    Few,
+    Most,
+    /// 255 risks in edition 2.
+    NoneJoined,
+    QuarterJoined,
+    HalfJoined,
+}
 
-const ALL: [Measured; 16] = [
-    Measured(Call::Rate, FEW),
-    Measured(Call::Rate, MOST),
-    Measured(Call::TunedRater(ClaimByClaim), MOST),
-    Measured(Call::TunedRater(WithVectors), MOST),
-    Measured(Call::StraightforwardRater, MOST),
-    Measured(Call::SecondRater, MOST),
-    Measured(Call::Table, MOST),
-    Measured(Call::Read, MOST),
-    Measured(Call::TunedReader(ClaimByClaim), MOST),
-    Measured(Call::TunedReader(WithVectors), MOST),
-    Measured(Call::Write, MOST),
-    Measured(Call::TunedWriter(ClaimByClaim), MOST),
-    Measured(Call::TunedWriter(WithVectors), MOST),
-    Measured(Call::Guaranteed, FEW),
-    Measured(Call::Guaranteed, MOST),
-    Measured(Call::SecondRatersGuaranteed, MOST),
+use Of::{Few, HalfJoined, Most, NoneJoined, QuarterJoined};
+
+const GROUPS: [Of; 5] = [Few, Most, NoneJoined, QuarterJoined, HalfJoined];
+
+/// The number of risks of the small group.
+const FEW: usize = 16;
+/// The number of claims of the others.
+const CLAIMS: usize = MOST_RISKS * MOST_CLAIMS_PER_RISK;
+
+impl Of {
+    fn name(self) -> &'static str {
+        match self {
+            Few => "16 risks",
+            Most => "255 risks",
+            NoneJoined => "255 risks, edition 2, no claim joined",
+            QuarterJoined => "255 risks, edition 2, a quarter joined",
+            HalfJoined => "255 risks, edition 2, half joined",
+        }
+    }
+
+    fn case(self) -> Case {
+        let of_edition_2 = |joined| Case::of_edition_2(MOST_RISKS, MOST_CLAIMS_PER_RISK, joined);
+        match self {
+            Few => Case::new(FEW, MOST_CLAIMS_PER_RISK),
+            Most => Case::new(MOST_RISKS, MOST_CLAIMS_PER_RISK),
+            NoneJoined => of_edition_2(Joined::None),
+            QuarterJoined => of_edition_2(Joined::AboutAQuarter),
+            HalfJoined => of_edition_2(Joined::AboutHalf),
+        }
+    }
+}
+
+/// What is measured: a call, and its group.
+#[derive(Clone, Copy, PartialEq)]
+struct Measured(Call, Of);
+
+const ALL: [Measured; 26] = [
+    Measured(Call::Rate, Few),
+    Measured(Call::Rate, Most),
+    Measured(Call::TunedRater(ClaimByClaim), Most),
+    Measured(Call::TunedRater(WithVectors), Most),
+    Measured(Call::StraightforwardRater, Most),
+    Measured(Call::SecondRater, Most),
+    Measured(Call::Table, Most),
+    Measured(Call::Read, Most),
+    Measured(Call::TunedReader(ClaimByClaim), Most),
+    Measured(Call::TunedReader(WithVectors), Most),
+    Measured(Call::Write, Most),
+    Measured(Call::TunedWriter(ClaimByClaim), Most),
+    Measured(Call::TunedWriter(WithVectors), Most),
+    Measured(Call::Guaranteed, Few),
+    Measured(Call::Guaranteed, Most),
+    Measured(Call::SecondRatersGuaranteed, Most),
+    Measured(Call::Rate, NoneJoined),
+    Measured(Call::Rate, QuarterJoined),
+    Measured(Call::Rate, HalfJoined),
+    Measured(Call::StraightforwardRater, QuarterJoined),
+    Measured(Call::SecondRater, QuarterJoined),
+    Measured(Call::Table, QuarterJoined),
+    Measured(Call::Read, NoneJoined),
+    Measured(Call::Read, QuarterJoined),
+    Measured(Call::Write, QuarterJoined),
+    Measured(Call::Guaranteed, QuarterJoined),
 ];
 
 /// A ratio of two medians.
@@ -73,100 +124,137 @@ impl Ratio {
 
 /// The goal of Rate's growth from few risks to most.
 const GROWTH_GOAL: &str = "below 17";
+/// The goal of Rate in edition 2 to Rate in edition 1, a claim. The files have as many claims.
+const EDITION_GOAL: &str = "at most 1.3";
 
-const RATIOS: [Ratio; 12] = [
+const RATIOS: [Ratio; 20] = [
     ratio(
         "Rate to the tuned rater, 255 risks",
-        Measured(Call::Rate, MOST),
-        Measured(Call::TunedRater(ClaimByClaim), MOST),
+        Measured(Call::Rate, Most),
+        Measured(Call::TunedRater(ClaimByClaim), Most),
     )
     .goal("at most 1.0"),
     ratio(
         "Rate to the tuned rater with vectors, 255 risks",
-        Measured(Call::Rate, MOST),
-        Measured(Call::TunedRater(WithVectors), MOST),
+        Measured(Call::Rate, Most),
+        Measured(Call::TunedRater(WithVectors), Most),
     )
     .goal("at most 1.0"),
     ratio(
         "Rate to the straightforward rater, 255 risks",
-        Measured(Call::Rate, MOST),
-        Measured(Call::StraightforwardRater, MOST),
+        Measured(Call::Rate, Most),
+        Measured(Call::StraightforwardRater, Most),
     )
     .goal("at most 1.0"),
     ratio(
         "Rate to the second rater, 255 risks",
-        Measured(Call::Rate, MOST),
-        Measured(Call::SecondRater, MOST),
+        Measured(Call::Rate, Most),
+        Measured(Call::SecondRater, Most),
     )
     .decimals(4),
     ratio(
         "Rate of 255 risks to Rate of 16",
-        Measured(Call::Rate, MOST),
-        Measured(Call::Rate, FEW),
+        Measured(Call::Rate, Most),
+        Measured(Call::Rate, Few),
     )
     .goal(GROWTH_GOAL),
     ratio(
         "Read to the tuned reader, 255 risks",
-        Measured(Call::Read, MOST),
-        Measured(Call::TunedReader(ClaimByClaim), MOST),
+        Measured(Call::Read, Most),
+        Measured(Call::TunedReader(ClaimByClaim), Most),
     )
     .goal("at most 1.5"),
     ratio(
         "Read to the tuned reader with vectors, 255 risks",
-        Measured(Call::Read, MOST),
-        Measured(Call::TunedReader(WithVectors), MOST),
+        Measured(Call::Read, Most),
+        Measured(Call::TunedReader(WithVectors), Most),
     )
     .goal("at most 1.5"),
     ratio(
         "Write to the tuned writer, 255 risks",
-        Measured(Call::Write, MOST),
-        Measured(Call::TunedWriter(ClaimByClaim), MOST),
+        Measured(Call::Write, Most),
+        Measured(Call::TunedWriter(ClaimByClaim), Most),
     )
     .goal("at most 1.5"),
     ratio(
         "Write to the tuned writer with vectors, 255 risks",
-        Measured(Call::Write, MOST),
-        Measured(Call::TunedWriter(WithVectors), MOST),
+        Measured(Call::Write, Most),
+        Measured(Call::TunedWriter(WithVectors), Most),
     )
     .goal("at most 1.5"),
     ratio(
         "Guaranteed to the second rater's, 255 risks",
-        Measured(Call::Guaranteed, MOST),
-        Measured(Call::SecondRatersGuaranteed, MOST),
+        Measured(Call::Guaranteed, Most),
+        Measured(Call::SecondRatersGuaranteed, Most),
     )
     .decimals(4),
     ratio(
         "Guaranteed to Rate, 255 risks",
-        Measured(Call::Guaranteed, MOST),
-        Measured(Call::Rate, MOST),
+        Measured(Call::Guaranteed, Most),
+        Measured(Call::Rate, Most),
     ),
     ratio(
         "Guaranteed of 255 risks to Guaranteed of 16",
-        Measured(Call::Guaranteed, MOST),
-        Measured(Call::Guaranteed, FEW),
+        Measured(Call::Guaranteed, Most),
+        Measured(Call::Guaranteed, Few),
+    ),
+    ratio(
+        "Rate a claim, edition 2 with no claim joined to edition 1",
+        Measured(Call::Rate, NoneJoined),
+        Measured(Call::Rate, Most),
+    )
+    .goal(EDITION_GOAL),
+    ratio(
+        "Rate a claim, edition 2 with a quarter joined to edition 1",
+        Measured(Call::Rate, QuarterJoined),
+        Measured(Call::Rate, Most),
+    )
+    .goal(EDITION_GOAL),
+    ratio(
+        "Rate a claim, edition 2 with half joined to edition 1",
+        Measured(Call::Rate, HalfJoined),
+        Measured(Call::Rate, Most),
+    )
+    .goal(EDITION_GOAL),
+    ratio(
+        "Rate to the straightforward rater, edition 2, a quarter joined",
+        Measured(Call::Rate, QuarterJoined),
+        Measured(Call::StraightforwardRater, QuarterJoined),
+    ),
+    ratio(
+        "Rate to the second rater, edition 2, a quarter joined",
+        Measured(Call::Rate, QuarterJoined),
+        Measured(Call::SecondRater, QuarterJoined),
+    )
+    .decimals(4),
+    ratio(
+        "Table a claim, edition 2 with a quarter joined to edition 1",
+        Measured(Call::Table, QuarterJoined),
+        Measured(Call::Table, Most),
+    ),
+    ratio(
+        "Read a claim, edition 2 with a quarter joined to edition 1",
+        Measured(Call::Read, QuarterJoined),
+        Measured(Call::Read, Most),
+    ),
+    ratio(
+        "Write a claim, edition 2 with a quarter joined to edition 1",
+        Measured(Call::Write, QuarterJoined),
+        Measured(Call::Write, Most),
     ),
 ];
 
-/// The two groups.
-struct Cases {
-    few: Case,
-    most: Case,
-}
+/// The groups as they are handed to the calls.
+struct Cases([Case; GROUPS.len()]);
 
 impl Cases {
     fn new() -> Cases {
-        Cases {
-            few: Case::new(FEW, MOST_CLAIMS_PER_RISK),
-            most: Case::new(MOST, MOST_CLAIMS_PER_RISK),
-        }
+        Cases(GROUPS.map(Of::case))
     }
 
     /// The group that is measured.
-    fn of(&self, Measured(_, risks): Measured) -> &Case {
-        match risks {
-            FEW => &self.few,
-            _ => &self.most,
-        }
+    fn of(&self, Measured(_, of): Measured) -> &Case {
+        &self.0[of as usize]
     }
 }
 
@@ -227,9 +315,9 @@ fn main() {
     println!("|---|---:|---:|---:|---:|");
     for (measured, times) in ALL.into_iter().zip(&times) {
         println!(
-            "| {}, {} risks | {:.2} | {:.2} | {:.2} | {:.0} |",
+            "| {}, {} | {:.2} | {:.2} | {:.2} | {:.0} |",
             measured.0.name(),
-            measured.1,
+            measured.1.name(),
             times.median() / 1_000.0,
             times.fastest() / 1_000.0,
             times.slowest() / 1_000.0,
@@ -255,14 +343,24 @@ fn main() {
             median(ratio.of) / median(ratio.to),
         );
     }
-    let few = median(Measured(Call::Rate, FEW));
-    let most = median(Measured(Call::Rate, MOST));
+    let few = median(Measured(Call::Rate, Few));
+    let most = median(Measured(Call::Rate, Most));
     println!();
     println!(
         "Rate, {MOST_CLAIMS_PER_RISK} claims a risk, entry ratio marks, medians of {RUNS} runs: \
-         {FEW} risks {:.2} µs, {MOST} risks {:.2} µs, ratio {:.2} (at most 32; goal {GROWTH_GOAL})",
+         {FEW} risks {:.2} µs, {MOST_RISKS} risks {:.2} µs, ratio {:.2} (at most 32; goal \
+         {GROWTH_GOAL})",
         few / 1_000.0,
         most / 1_000.0,
         most / few,
+    );
+    let a_claim = |of: Of| median(Measured(Call::Rate, of)) / CLAIMS as f64;
+    println!(
+        "Rate, {CLAIMS} claims, ns a claim: edition 1 {:.3}; edition 2 {:.3} with no claim joined, \
+         {:.3} with a quarter joined, {:.3} with half joined (goal {EDITION_GOAL} of edition 1)",
+        a_claim(Most),
+        a_claim(NoneJoined),
+        a_claim(QuarterJoined),
+        a_claim(HalfJoined),
     );
 }

@@ -2,13 +2,15 @@
 //!
 //!     valgrind --tool=callgrind --toggle-collect=retro_rate cargo-target/release/once rate
 //!
-//! `once CALL [RISKS [CLAIMS]]`: RISKS risks of CLAIMS claims each; where they are not given, 255
-//! risks of 63 claims, the largest file of `bench`. Exit status: 0; 2 for wrong usage.
+//! `once CALL [JOINED] [RISKS [CLAIMS]]`: RISKS risks of CLAIMS claims each; where they are not
+//! given, 255 risks of 63 claims, the largest files of `bench`. With JOINED the same claims in
+//! edition 2, of which none, about a quarter or about half belong to the accident of the claim
+//! before. Exit status: 0; 2 for wrong usage.
 //!
 //! The tuned peers are compiled for this machine. Those with vectors may have instructions that
 //! valgrind does not know, such as those of AVX-512; `objdump -d` shows their loops.
 
-use retro_tests::desk::{Call, Case, Desk};
+use retro_tests::desk::{Call, Case, Desk, Joined};
 use retro_tests::peers::Form::{ClaimByClaim, WithVectors};
 use retro_tests::second_rater::{MOST_CLAIMS_PER_RISK, MOST_RISKS};
 use std::env;
@@ -29,28 +31,44 @@ const CALLS: [(&str, Call); 11] = [
     ("tuned-writer-with-vectors", Call::TunedWriter(WithVectors)),
 ];
 
+/// The groups in edition 2 by the names that the arguments have for them.
+const JOINED: [(&str, Joined); 3] = [
+    ("none-joined", Joined::None),
+    ("quarter-joined", Joined::AboutAQuarter),
+    ("half-joined", Joined::AboutHalf),
+];
+
 fn main() -> ExitCode {
     let arguments: Vec<String> = env::args().skip(1).collect();
     match asked(&arguments) {
-        Ok((call, risks, claims)) => {
-            let case = Case::new(risks, claims);
+        Ok((call, case)) => {
             Desk::new().call(call, &case);
             ExitCode::SUCCESS
         }
         Err(mistake) => {
             let names = CALLS.map(|(name, _)| name).join(" | ");
+            let joined = JOINED.map(|(name, _)| name).join(" | ");
             eprintln!("{mistake}");
-            eprintln!("usage: once CALL [RISKS [CLAIMS]], where CALL is {names}");
+            eprintln!("usage: once CALL [JOINED] [RISKS [CLAIMS]], where CALL is {names}");
+            eprintln!("and JOINED, for edition 2, is {joined}");
             ExitCode::from(2)
         }
     }
 }
 
-/// The call, the number of risks and the number of claims of each that the arguments ask for.
-fn asked(arguments: &[String]) -> Result<(Call, usize, usize), String> {
-    let (name, numbers) = arguments.split_first().ok_or("no call is named")?;
+/// The call and the group that the arguments ask for.
+fn asked(arguments: &[String]) -> Result<(Call, Case), String> {
+    let (name, rest) = arguments.split_first().ok_or("no call is named")?;
     let known = CALLS.iter().find(|(known, _)| known == name);
     let &(_, call) = known.ok_or_else(|| format!("{name} is no call"))?;
+    let joined = rest.first().and_then(|word| {
+        let known = JOINED.iter().find(|(known, _)| known == word);
+        known.map(|&(_, joined)| joined)
+    });
+    if joined.is_some() && call.is_of_a_peer() {
+        return Err(format!("{name} takes edition 1 alone"));
+    }
+    let numbers = &rest[usize::from(joined.is_some())..];
     if let Some(more) = numbers.get(2) {
         return Err(format!("{more} is an argument too many"));
     }
@@ -66,5 +84,9 @@ fn asked(arguments: &[String]) -> Result<(Call, usize, usize), String> {
     };
     let risks = number(0, "risks", MOST_RISKS)?;
     let claims = number(1, "claims", MOST_CLAIMS_PER_RISK)?;
-    Ok((call, risks, claims))
+    let case = match joined {
+        None => Case::new(risks, claims),
+        Some(joined) => Case::of_edition_2(risks, claims, joined),
+    };
+    Ok((call, case))
 }

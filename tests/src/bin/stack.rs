@@ -2,19 +2,19 @@
 //!
 //!     cargo run --offline --release --bin stack
 //!
-//! Each call runs on the largest file in a thread whose stack was filled with a pattern; what it
-//! used reaches from the place of the call down to the lowest byte that has changed. For the
-//! program target/bin/retro it is the least limit, in steps of 4 KiB, under which it rates the
-//! file.
+//! Each call runs on the largest file of either edition in a thread whose stack was filled with a
+//! pattern; what it used reaches from the place of the call down to the lowest byte that has
+//! changed. For the program target/bin/retro it is the least limit, in steps of 4 KiB, under which
+//! it rates the file.
 
 use retro_tests::calls::{self, Numbers};
 use retro_tests::guard::{Guarded, Place};
-use retro_tests::samples::stock;
-use retro_tests::{examples, program, second_rater};
+use retro_tests::samples::{largest, largest_of_edition_2, stock, Sample, Values};
+use retro_tests::{program, second_rater};
 use std::ffi::{c_int, c_void};
 use std::fs::{self, File};
-use std::process::Command;
-use std::ptr;
+use std::process::{self, Command};
+use std::{env, ptr};
 
 /// The size of the thread's stack.
 const STACK: usize = 1 << 20;
@@ -43,9 +43,7 @@ extern "C" {
 struct Task {
     call: fn(&mut Task),
     file: Vec<u8>,
-    counts: Vec<u8>,
-    claims: Vec<u32>,
-    header: calls::Header,
+    values: Values,
     schedule: calls::Schedule,
     premiums: Vec<u8>,
     differences: Vec<i64>,
@@ -87,12 +85,26 @@ fn table(task: &mut Task) {
 }
 
 fn read(task: &mut Task) {
-    task.answer = calls::read(&task.file, &mut task.counts, &mut task.claims).refused;
+    let Values {
+        counts,
+        claims,
+        joined,
+        ..
+    } = &mut task.values;
+    task.answer = calls::read(&task.file, counts, claims, joined).refused;
 }
 
 fn write(task: &mut Task) {
-    let (counts, claims) = (&task.counts, &task.claims);
-    task.answer = calls::write(task.header, counts, claims, &mut task.written, &mut 0);
+    let values = &task.values;
+    task.answer = calls::write(
+        values.edition,
+        values.header.into(),
+        &values.counts,
+        &values.claims,
+        &values.joined,
+        &mut task.written,
+        &mut 0,
+    );
 }
 
 extern "C" fn start(task: *mut c_void) -> *mut c_void {
@@ -137,45 +149,49 @@ fn used(task: &mut Task, call: fn(&mut Task)) -> usize {
 const RUNS: usize = 50;
 
 /// The least stack limit in KiB under which `retro` always prints what it must for a file.
-fn least_limit(name: &str) -> u32 {
+fn least_limit(bytes: &[u8]) -> u32 {
     let program = program();
-    let file = examples().join(name).with_extension("group");
-    let expected = fs::read(file.with_extension("expected")).expect("the expected lines");
+    let file = env::temp_dir().join(format!("retro-stack-{}.group", process::id()));
+    fs::write(&file, bytes).expect("a file for the program");
+    let rated = second_rater::rate(bytes, 4 * second_rater::MOST_RISKS).expect("a rated file");
+    let expected = second_rater::print_rated(&rated).into_bytes();
     let rates_under = |limit: u32| {
         let output = Command::new("/bin/sh")
             .args(["-c", "ulimit -s \"$0\" && exec \"$1\"", &limit.to_string()])
             .arg(&program)
             .env_clear()
-            .stdin(File::open(&file).expect("the example"))
+            .stdin(File::open(&file).expect("the file"))
             .output()
             .expect("a shell");
         output.stdout == expected
     };
-    (4..=8_192)
+    let least = (4..=8_192)
         .step_by(4)
-        .find(|&limit| (0..RUNS).all(|_| rates_under(limit)))
-        .expect("target/bin/retro rates the file under 8 MiB")
+        .find(|&limit| (0..RUNS).all(|_| rates_under(limit)));
+    fs::remove_file(&file).expect("the file can be removed");
+    least.expect("target/bin/retro rates the file under 8 MiB")
 }
 
-fn main() {
-    let file = fs::read(examples().join("largest.group")).expect("the largest example");
-    let group = second_rater::read(&file, 255, 16_065).expect("the largest example is sound");
-    let mut task = Task {
+/// What the calls are given for a group.
+fn task(sample: &Sample) -> Task {
+    Task {
         call: no_call,
-        file,
-        counts: group.counts,
-        claims: group.claims,
-        header: group.header.into(),
+        file: sample.file(),
+        values: sample.values(),
         schedule: stock().into(),
-        premiums: vec![0; 1_020],
-        differences: vec![0; 255],
+        premiums: vec![0; 4 * second_rater::MOST_RISKS],
+        differences: vec![0; second_rater::MOST_RISKS],
         numbers: Numbers::default(),
         written: vec![0; second_rater::LARGEST_FILE],
         answer: 0,
         place: 0,
-    };
-    println!("| largest file | stack |");
-    println!("|---|---:|");
+    }
+}
+
+fn main() {
+    let mut tasks = [largest(), largest_of_edition_2()].map(|sample| task(&sample));
+    println!("| largest file | edition 1 | edition 2 |");
+    println!("|---|---:|---:|");
     for (name, call) in [
         ("no call", no_call as fn(&mut Task)),
         ("Rate", rate),
@@ -184,10 +200,9 @@ fn main() {
         ("Write", write),
         ("Guaranteed", guaranteed),
     ] {
-        println!("| {name} | {} bytes |", used(&mut task, call));
+        let [of_1, of_2] = tasks.each_mut().map(|task| used(task, call));
+        println!("| {name} | {of_1} bytes | {of_2} bytes |");
     }
-    println!(
-        "| `retro`, least `ulimit -s` | {} KiB |",
-        least_limit("largest")
-    );
+    let [of_1, of_2] = tasks.each_ref().map(|task| least_limit(&task.file));
+    println!("| `retro`, least `ulimit -s` | {of_1} KiB | {of_2} KiB |");
 }
