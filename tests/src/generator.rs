@@ -52,6 +52,13 @@ pub fn set(file: &mut [u8], field: Field, value: u32) {
     }
 }
 
+/// The file with a field changed.
+pub fn with(file: &[u8], field: Field, value: u32) -> Vec<u8> {
+    let mut file = file.to_vec();
+    set(&mut file, field, value);
+    file
+}
+
 /// The value of a field of the file, which need not be in its header; bits past its end are 0.
 pub fn get(file: &[u8], field: Field) -> u32 {
     let bit = |at: usize| at / 8 < file.len() && file[at / 8] & (0x80 >> (at % 8)) != 0;

@@ -8,9 +8,14 @@
 use crate::calls::{self, Group, Lent, Numbers};
 use crate::generator::{get, EDITION};
 use crate::guard::{Guarded, PLACES};
-use crate::samples::Values;
+use crate::samples::{schedules, Values};
 use crate::second_rater::{self, Guaranteed, Layer, Rated};
 use std::fmt;
+
+/// Enough room in bytes for the premiums of 255 risks.
+pub const BYTES: usize = 1_020;
+/// Enough room in entries for the counts of 255 risks, and for the claims of small groups.
+pub const ENTRIES: usize = 300;
 
 // What the lent numbers hold before a call.
 const RISKS: u32 = 0xa1b2_c3d4;
@@ -440,6 +445,42 @@ impl HeldCalls {
         }
         self.given.add(Call::Write, *edition, answer);
         answer
+    }
+
+    /// Each call on a file gives this question: where its buffers, entry ratio and schedule are
+    /// sound, and where each of them fails 13, 14, 16 or 17.
+    #[track_caller]
+    pub fn all_give(&mut self, file: &[u8], question: u32) {
+        for room in [BYTES, 3, 0] {
+            assert_eq!(self.rate(file, room), question, "{file:02x?}");
+        }
+        for layers in schedules() {
+            for (premiums, differences) in [(BYTES, ENTRIES), (3, ENTRIES), (BYTES, 0), (0, 0)] {
+                let answer = self.guaranteed(file, &layers, premiums, differences);
+                assert_eq!(answer, question, "{file:02x?}");
+            }
+        }
+        for entry_ratio in [0, 100, 600, 601, u32::MAX] {
+            assert_eq!(self.table(file, entry_ratio), question, "{file:02x?}");
+        }
+        for (counts, claims, joined) in [
+            (ENTRIES, ENTRIES, ENTRIES),
+            (0, ENTRIES, ENTRIES),
+            (ENTRIES, 0, ENTRIES),
+            (ENTRIES, ENTRIES, 0),
+            (0, 0, 0),
+        ] {
+            let answer = self.read(file, counts, claims, joined);
+            assert_eq!(answer, question, "{file:02x?}");
+        }
+    }
+
+    /// Write of values gives this question with room enough and without.
+    #[track_caller]
+    pub fn write_gives(&mut self, values: &Values, question: u32) {
+        for room in [1 << 11, 16, 0] {
+            assert_eq!(self.write(values, room), question, "{values:?}");
+        }
     }
 
     /// What Read gives of an accepted file, as values for Write.

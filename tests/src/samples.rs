@@ -419,3 +419,14 @@ pub fn schedule(rows: [(u32, u32); 4]) -> [Layer; 4] {
 pub fn stock() -> [Layer; 4] {
     schedule([(5_000, 0), (95_000, 109), (400_000, 126), (0, 144)])
 }
+
+/// Schedules that fail none of their questions, 16, 16, 17, and both.
+pub fn schedules() -> [[Layer; 4]; 5] {
+    [
+        stock(),
+        schedule([(5_000, 0), (95_000, 109), (400_000, 126), (0, 1_001)]),
+        schedule([(5_000, 1_001), (95_000, 109), (400_000, 126), (0, 144)]),
+        schedule([(0, 0), (95_000, 109), (400_000, 126), (0, 144)]),
+        schedule([(5_000, 0), (95_000, 109), (0, u32::MAX), (0, 144)]),
+    ]
+}

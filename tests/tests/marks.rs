@@ -6,19 +6,15 @@
 
 use retro_tests::calls::{self, Rated};
 use retro_tests::generator::{
-    set, Field, Random, CONVERSION, EDITION, HEADER, MAXIMUM_MARK, MINIMUM_MARK, RISKS, SPARE,
+    set, with, Random, CONVERSION, EDITION, HEADER, MAXIMUM_MARK, MINIMUM_MARK, RISKS, SPARE,
     STANDARD_PREMIUM, TAX,
 };
-use retro_tests::held_calls::{Call, HeldCalls};
+use retro_tests::held_calls::{Call, HeldCalls, BYTES, ENTRIES};
 use retro_tests::samples::{
-    crossed_marks, four_risks, one_claim_of_one, one_risk, scaffold, schedule, stock, ten_risks,
+    crossed_marks, four_risks, one_claim_of_one, one_risk, scaffold, schedules, stock, ten_risks,
     two_risks_of_ten, Sample, Values,
 };
-use retro_tests::second_rater::{Header, Layer};
-
-/// Enough room in bytes for the premiums of 255 risks, and for them and more in entries.
-const BYTES: usize = 1_020;
-const ENTRIES: usize = 300;
+use retro_tests::second_rater::Header;
 
 /// A group with these marks of this kind.
 fn with_marks(sample: &Sample, kind: u32, maximum: u32, minimum: u32) -> Sample {
@@ -188,56 +184,11 @@ fn crossed_groups() -> Vec<Sample> {
     ]
 }
 
-/// A file with a field changed.
-fn with(file: &[u8], field: Field, value: u32) -> Vec<u8> {
-    let mut file = file.to_vec();
-    set(&mut file, field, value);
-    file
-}
-
-/// Schedules that fail none of their questions, 16, 16, 17, and both.
-fn schedules() -> [[Layer; 4]; 5] {
-    [
-        stock(),
-        schedule([(5_000, 0), (95_000, 109), (400_000, 126), (0, 1_001)]),
-        schedule([(5_000, 1_001), (95_000, 109), (400_000, 126), (0, 144)]),
-        schedule([(0, 0), (95_000, 109), (400_000, 126), (0, 144)]),
-        schedule([(5_000, 0), (95_000, 109), (0, u32::MAX), (0, 144)]),
-    ]
-}
-
-/// Each call on a file gives this question: where its buffers, entry ratio and schedule are sound,
-/// and where each of them fails 13, 14, 16 or 17.
-fn all_give(held_calls: &mut HeldCalls, file: &[u8], question: u32) {
-    for room in [BYTES, 3, 0] {
-        assert_eq!(held_calls.rate(file, room), question, "{file:02x?}");
-    }
-    for layers in schedules() {
-        for (premiums, differences) in [(BYTES, ENTRIES), (3, ENTRIES), (BYTES, 0), (0, 0)] {
-            let answer = held_calls.guaranteed(file, &layers, premiums, differences);
-            assert_eq!(answer, question, "{file:02x?}");
-        }
-    }
-    for entry_ratio in [0, 100, 600, 601, u32::MAX] {
-        assert_eq!(held_calls.table(file, entry_ratio), question, "{file:02x?}");
-    }
-    for (counts, claims, joined) in [
-        (ENTRIES, ENTRIES, ENTRIES),
-        (0, ENTRIES, ENTRIES),
-        (ENTRIES, 0, ENTRIES),
-        (ENTRIES, ENTRIES, 0),
-        (0, 0, 0),
-    ] {
-        let answer = held_calls.read(file, counts, claims, joined);
-        assert_eq!(answer, question, "{file:02x?}");
-    }
-}
-
 #[test]
 fn crossed_marks_with_13_14_16_and_17_give_18() {
     let mut held_calls = HeldCalls::new();
     for sample in crossed_groups() {
-        all_give(&mut held_calls, &sample.file_of_any_marks(), 18);
+        held_calls.all_give(&sample.file_of_any_marks(), 18);
     }
     // The buffers, entry ratios and schedules are such that a sound file fails each of these.
     let file = four_risks().file();
@@ -258,17 +209,17 @@ fn crossed_marks_with_1_to_5_give_the_other() {
     for sample in crossed_groups() {
         let file = sample.file_of_any_marks();
         // 15 bytes have both marks, of which the last bit is the file's 119th
-        all_give(&mut held_calls, &file[..15], 1);
+        held_calls.all_give(&file[..15], 1);
         for edition in [0, 3, 15] {
-            all_give(&mut held_calls, &with(&file, EDITION, edition), 2);
+            held_calls.all_give(&with(&file, EDITION, edition), 2);
         }
-        all_give(&mut held_calls, &with(&file, SPARE, 1), 2);
-        all_give(&mut held_calls, &with(&file, STANDARD_PREMIUM, 0), 3);
+        held_calls.all_give(&with(&file, SPARE, 1), 2);
+        held_calls.all_give(&with(&file, STANDARD_PREMIUM, 0), 3);
         for conversion in [0, 999, 2_001, 2_047] {
-            all_give(&mut held_calls, &with(&file, CONVERSION, conversion), 4);
+            held_calls.all_give(&with(&file, CONVERSION, conversion), 4);
         }
         for tax in [0, 9_999, 20_001, 32_767] {
-            all_give(&mut held_calls, &with(&file, TAX, tax), 5);
+            held_calls.all_give(&with(&file, TAX, tax), 5);
         }
     }
 }
@@ -290,10 +241,10 @@ fn crossed_marks_above_6_000_give_6() {
             (8_190, 8_191),
         ] {
             let marks = with(&with(&file, MAXIMUM_MARK, maximum), MINIMUM_MARK, minimum);
-            all_give(&mut held_calls, &marks, 6);
+            held_calls.all_give(&marks, 6);
             // exchanged they are in order, and 6 is the only fault
             let marks = with(&with(&file, MAXIMUM_MARK, minimum), MINIMUM_MARK, maximum);
-            all_give(&mut held_calls, &marks, 6);
+            held_calls.all_give(&marks, 6);
         }
     }
 }
@@ -304,19 +255,19 @@ fn crossed_marks_with_7_and_8_give_18() {
     for sample in crossed_groups() {
         let file = sample.file_of_any_marks();
         // no risks: a header alone, and with bytes after it, of which 8 would ask
-        all_give(&mut held_calls, &with(&file[..HEADER], RISKS, 0), 18);
-        all_give(&mut held_calls, &with(&file, RISKS, 0), 18);
+        held_calls.all_give(&with(&file[..HEADER], RISKS, 0), 18);
+        held_calls.all_give(&with(&file, RISKS, 0), 18);
         // another number of risks
-        all_give(&mut held_calls, &with(&file, RISKS, 255), 18);
+        held_calls.all_give(&with(&file, RISKS, 255), 18);
         // a byte less, none after the header, and bytes more
-        all_give(&mut held_calls, &file[..file.len() - 1], 18);
-        all_give(&mut held_calls, &file[..HEADER], 18);
+        held_calls.all_give(&file[..file.len() - 1], 18);
+        held_calls.all_give(&file[..HEADER], 18);
         for added in [0, 1, 0xff] {
             let mut longer = file.clone();
             longer.push(added);
-            all_give(&mut held_calls, &longer, 18);
+            held_calls.all_give(&longer, 18);
             longer.resize(50_000, added);
-            all_give(&mut held_calls, &longer, 18);
+            held_calls.all_give(&longer, 18);
         }
     }
 }
@@ -331,10 +282,10 @@ fn crossed_marks_with_9_give_18() {
         for fill in 1..=3 {
             let mut file = crossed.clone();
             *file.last_mut().unwrap() |= fill;
-            all_give(&mut held_calls, &file, 18);
+            held_calls.all_give(&file, 18);
             let mut file = sound.clone();
             *file.last_mut().unwrap() |= fill;
-            all_give(&mut held_calls, &file, 9);
+            held_calls.all_give(&file, 9);
         }
     }
 }
@@ -349,7 +300,7 @@ fn crossed_marks_with_10_give_18() {
                 ..four_risks()
             };
             let crossed = with_marks(&no_losses, kind, maximum, minimum);
-            all_give(&mut held_calls, &crossed.file_of_any_marks(), 18);
+            held_calls.all_give(&crossed.file_of_any_marks(), 18);
             let exchanged = with_marks(&no_losses, kind, minimum, maximum);
             // Read and Write do not ask 10.
             let answer = [10, 10, 10, 0, 0];
@@ -365,7 +316,7 @@ fn crossed_marks_that_document_01_refused_11_give_18() {
     let mut held_calls = HeldCalls::new();
     for kind in [0, 1] {
         let crossed = with_marks(&four_risks(), kind, 199, 200);
-        all_give(&mut held_calls, &crossed.file_of_any_marks(), 18);
+        held_calls.all_give(&crossed.file_of_any_marks(), 18);
         assert_eq!(write(&mut held_calls, &crossed), 18);
         let equal = with_marks(&four_risks(), kind, 200, 200);
         assert_eq!(answers(&mut held_calls, &equal), [0; 5]);
@@ -381,14 +332,14 @@ fn crossed_marks_with_12_give_18() {
         let mut negative = two_risks_of_ten(2_000);
         negative.header.standard_premium = 10;
         let crossed = with_marks(&negative, kind, 5_998, 5_999);
-        all_give(&mut held_calls, &crossed.file_of_any_marks(), 18);
+        held_calls.all_give(&crossed.file_of_any_marks(), 18);
         let exchanged = with_marks(&negative, kind, 5_999, 5_998);
         // Table, Read and Write do not ask 12.
         let answer = [12, 12, 0, 0, 0];
         assert_eq!(answers(&mut held_calls, &exchanged), answer);
         // crossed in dollars too
         let crossed = with_marks(&negative, kind, 0, 6_000);
-        all_give(&mut held_calls, &crossed.file_of_any_marks(), 18);
+        held_calls.all_give(&crossed.file_of_any_marks(), 18);
     }
 }
 
@@ -399,10 +350,10 @@ fn crossed_marks_with_all_later_faults_give_18() {
     for sample in crossed_groups() {
         let mut file = sample.file_of_any_marks();
         file.push(1);
-        all_give(&mut held_calls, &with(&file, RISKS, 0), 18);
+        held_calls.all_give(&with(&file, RISKS, 0), 18);
         file.truncate(HEADER);
         file.extend([0, 0, 0, 0, 1]);
-        all_give(&mut held_calls, &file, 18);
+        held_calls.all_give(&file, 18);
         // and all earlier faults before it
         for (field, value, question) in [
             (MINIMUM_MARK, 8_191, 6),
@@ -412,9 +363,9 @@ fn crossed_marks_with_all_later_faults_give_18() {
             (EDITION, 0, 2),
         ] {
             set(&mut file, field, value);
-            all_give(&mut held_calls, &file, question);
+            held_calls.all_give(&file, question);
         }
-        all_give(&mut held_calls, &file[..15], 1);
+        held_calls.all_give(&file[..15], 1);
     }
 }
 
@@ -428,10 +379,8 @@ fn write_gives(
     claims: &[u32],
     question: u32,
 ) {
-    for room in [1 << 11, 16, 0] {
-        let values = Values::of_edition_1(header, counts, claims);
-        assert_eq!(held_calls.write(&values, room), question, "{values:?}");
-    }
+    let values = Values::of_edition_1(header, counts, claims);
+    held_calls.write_gives(&values, question);
 }
 
 /// Headers with the minimum mark above the maximum mark.
