@@ -18,7 +18,7 @@ enum { BILLED = 0, REFUSED = 1, UNREADABLE = 2, USAGE = 3, UNPRINTED = 4 };
 /* The question of each refusal of retro_rate and retro_table, as retro.h numbers them. */
 static const char *const questions[] = {
     [1] = "Has the file at least 16 bytes?",
-    [2] = "Is the edition 1 and the spare bit 0?",
+    [2] = "Is the edition 1 or 2 and the spare bit 0?",
     [3] = "Is the standard premium at least 1?",
     [4] = "Is the loss conversion factor from 1.000 to 2.000?",
     [5] = "Is the tax multiplier from 1.0000 to 2.0000?",
@@ -32,6 +32,7 @@ static const char *const questions[] = {
     [13] = "Is the buffer for the premiums long enough?",
     [14] = "Is the entry ratio at most 6.00?",
     [18] = "Is the minimum mark at most the maximum mark?",
+    [19] = "Does the first claim of each risk open an accident?",
 };
 
 /* A file in memory. */

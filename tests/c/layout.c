@@ -20,7 +20,7 @@ static_assert(offsetof(retro_header, mark_kind) == 20, "sixth");
 static_assert(offsetof(retro_header, maximum_mark) == 24, "seventh");
 static_assert(offsetof(retro_header, minimum_mark) == 28, "eighth");
 
-static_assert(sizeof(retro_group) == 40, "ten numbers of 32 bits");
+static_assert(sizeof(retro_group) == 44, "eleven numbers of 32 bits");
 static_assert(offsetof(retro_group, refused) == 0, "first");
 static_assert(offsetof(retro_group, risks) == 4, "second");
 static_assert(offsetof(retro_group, loss_limit) == 8, "third");
@@ -31,6 +31,7 @@ static_assert(offsetof(retro_group, tax) == 24, "seventh");
 static_assert(offsetof(retro_group, mark_kind) == 28, "eighth");
 static_assert(offsetof(retro_group, maximum_mark) == 32, "ninth");
 static_assert(offsetof(retro_group, minimum_mark) == 36, "tenth");
+static_assert(offsetof(retro_group, edition) == 40, "eleventh");
 
 static_assert(sizeof(retro_layer) == 8, "two numbers of 32 bits");
 static_assert(offsetof(retro_layer, width) == 0, "first");
@@ -40,15 +41,20 @@ static_assert(sizeof(retro_schedule) == 32, "four layers");
 static_assert(offsetof(retro_schedule, layers) == 0, "first");
 static_assert(sizeof(((retro_schedule *)0)->layers) == 32, "four, one after another");
 
+static_assert(RETRO_MOST_RISKS == 255, "8 bits");
+static_assert(RETRO_MOST_CLAIMS == 255 * 63, "6 bits for each risk");
+static_assert(RETRO_LARGEST_FILE == (128 + 255 * 6 + 16065 * 21 + 7) / 8, "of edition 2");
+
 /* The calls as pointers of exactly these types. */
 static uint32_t (*const rate)(const uint8_t *, size_t, uint8_t *, size_t, uint32_t *, uint64_t *,
                               uint64_t *, uint64_t *) = retro_rate;
 static uint32_t (*const table)(const uint8_t *, size_t, uint32_t, uint32_t *,
                                uint32_t *) = retro_table;
-static retro_group (*const take)(const uint8_t *, size_t, uint8_t *, size_t, uint32_t *,
-                                 size_t) = retro_read;
-static uint32_t (*const make)(retro_header, const uint8_t *, size_t, const uint32_t *, size_t,
-                              uint8_t *, size_t, size_t *) = retro_write;
+static retro_group (*const take)(const uint8_t *, size_t, uint8_t *, size_t, uint32_t *, size_t,
+                                 uint8_t *, size_t) = retro_read;
+static uint32_t (*const make)(uint32_t, retro_header, const uint8_t *, size_t, const uint32_t *,
+                              size_t, const uint8_t *, size_t, uint8_t *, size_t,
+                              size_t *) = retro_write;
 static uint32_t (*const beside)(const uint8_t *, size_t, retro_schedule, uint8_t *, size_t,
                                 int64_t *, size_t, uint32_t *, uint64_t *, uint64_t *, uint64_t *,
                                 uint32_t *, uint32_t *, int64_t *) = retro_guaranteed;
@@ -68,12 +74,15 @@ int main(void)
     if (table(NULL, 0, 0, &charge, &savings) != 1) {
         return 2;
     }
-    retro_group group = take(NULL, 0, NULL, 0, NULL, 0);
-    if (group.refused != 1 || group.risks != 0 || group.minimum_mark != 0) {
+    retro_group group = take(NULL, 0, NULL, 0, NULL, 0, NULL, 0);
+    if (group.refused != 1 || group.risks != 0 || group.minimum_mark != 0 || group.edition != 0) {
         return 3;
     }
-    if (make(header, NULL, 0, NULL, 0, NULL, 0, &length) != 7) {
-        return 4;
+    for (uint32_t edition = 0; edition < 4; edition++) {
+        uint32_t question = edition == 1 || edition == 2 ? 7 : 2;
+        if (make(edition, header, NULL, 0, NULL, 0, NULL, 0, NULL, 0, &length) != question) {
+            return 4;
+        }
     }
     if (beside(NULL, 0, schedule, NULL, 0, NULL, 0, &risks, &basic, &excess, &billed, &discount,
                &guaranteed, &difference) != 1) {

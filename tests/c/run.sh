@@ -1,7 +1,8 @@
 #!/usr/bin/env bash
 # Builds the programs in C against target/staticlib/libretro_c.a and runs them: layout, what retro.h
-# promises; round_trip, Write and Read of the four-risk group; billing and guaranteed, which are held
-# to tests/c/*.expected, whose figures are the second rater's. Any failure exits non-zero.
+# promises; round_trip, Write and Read of the four-risk group in either edition; billing and
+# guaranteed, which are held to tests/c/*.expected, whose figures are the second rater's. Any
+# failure exits non-zero.
 set -euo pipefail
 export LC_ALL=C
 cd "$(dirname "$0")/../.."
@@ -67,13 +68,14 @@ unprinted() {
 
 lines four-risks billing examples/four-risks.group
 lines entry-ratio billing examples/entry-ratio.group
+lines scaffold billing examples/scaffold.group
 failure missing 2 billing examples/no-such-file.group
 failure folder 2 billing examples
 failure usage 3 billing
 failure usage 3 billing examples/four-risks.group examples/no-limit.group
 
 # Each refused example, with its number and question, as tests/c/refused.expected has them.
-for k in 01 02 03 04 05 06 07 08 09 10 12 18; do
+for k in 01 02 03 04 05 06 07 08 09 10 12 18 19; do
     ran 1 billing "examples/refused-$k.group"
     diff /dev/null "$built/printed"
     cat "$built/said"
@@ -81,7 +83,7 @@ done >"$built/refused"
 diff tests/c/refused.expected "$built/refused"
 unprinted billing
 
-echo "billing: 2 invoices, 12 refused files, 2 unreadable, 2 wrong usages, 1 unprinted: as expected"
+echo "billing: 3 invoices, 13 refused files, 2 unreadable, 2 wrong usages, 1 unprinted: as expected"
 
 # The stock schedule, with and without its numbers.
 file=examples/four-risks.group
