@@ -1,13 +1,12 @@
 -- A claim's two fields are as well one field, of both widths, whose number is the bit with the dollars' bits after it. So claims
 -- may be put as one field each; where the bit's field has no bits these are the dollars alone. Assumes nothing.
-use mathlib.Core.Path.{_≡_, refl, sym, ap, ap₂, _∙_, subst}
-use mathlib.Core.List.{List, [], _∷_, _++_, map}
-use Prim.Native.Nat.{ℕ, _+_, _*_, _^_, _<_}
+use mathlib.Core.Path.{_≡_, refl, sym, ap, ap₂, subst}
+use mathlib.Core.List.{List, [], _∷_, map}
+use Prim.Native.Nat.{ℕ, zero, suc, _+_, _*_, _^_, _<_}
 use native.Mathlib.Omega.{arith}
-use lib.ListN.{length, getD, drop}
+use lib.ListN.{length, getD}
 use Rattle.plan.specs.Field.{Slot, slot, slots, totalWidth, Laid, Fitting}
-use Rattle.plan.specs.Claim.{Claim, claim, joinedWidth, dollarsWidth, claimWidth, slotsOfClaim, slotsOfClaims, claimsOf}
-use Rattle.plan.proofs.Claims.{width-is}
+use Rattle.plan.specs.Claim.{Claim, claim, joinedWidth, dollarsWidth, slotsOfClaim, slotsOfClaims, claimsOf}
 use Rattle.words.proofs.Words.{joined-lt}
 use Rattle.bits.specs.Runs.{Space, Wrote}
 use Rattle.bits.proofs.Regrouped.{laid-two}
@@ -15,6 +14,23 @@ use Rattle.bits.proofs.Regrouped.{laid-two}
 -- a claim as one number
 abbrev pub asOne : Claim → ℕ
 asOne (claim j d) = j * 2 ^ dollarsWidth + d
+
+-- claims of given bits and given dollars, each as one
+abbrev pub values : List ℕ → List ℕ → List ℕ
+values js ds = map asOne (claimsOf js ds)
+
+pub length-values : (js ds : List ℕ) → length js ≡ length ds → length (values js ds) ≡ length ds
+length-values [] [] e = refl
+length-values [] (d ∷ ds) e = absurd (omega arith)
+length-values (j ∷ js) [] e = refl
+length-values (j ∷ js) (d ∷ ds) e = ap suc (length-values js ds (omega arith))
+
+pub value-at : (js ds : List ℕ) (i : ℕ) → length js ≡ length ds → i < length ds
+    → getD js i 0 * 2 ^ dollarsWidth + getD ds i 0 ≡ getD (values js ds) i 0
+value-at js [] i e h = absurd (omega arith)
+value-at [] (d ∷ ds) i e h = absurd (omega arith)
+value-at (j ∷ js) (d ∷ ds) zero e h = refl
+value-at (j ∷ js) (d ∷ ds) (suc i) e h = value-at js ds i (omega arith) (omega arith)
 
 module _ (edition : ℕ) where
   -- the bits of both fields
@@ -90,3 +106,12 @@ module _ (edition : ℕ) where
         → Wrote s at (slotsOfClaims edition (claimsOf js ds)) t q
     wrote-plain {t} {q} x =
         wrote-as-one (claimsOf js ds) p (subst (λ (fs : List Slot). Wrote s at fs t q) (sym (plain z js ds e (p .fitting))) x)
+
+-- the dollars of each claim fit their field
+pub dollars-at : (edition : ℕ) (js ds : List ℕ) (i : ℕ) → length js ≡ length ds → i < length ds
+    → Fitting (slotsOfClaims edition (claimsOf js ds)) → getD ds i 0 < 2 ^ dollarsWidth
+unfolding slotsOfClaim
+dollars-at edition js [] i e h f = absurd (omega arith)
+dollars-at edition [] (d ∷ ds) i e h f = absurd (omega arith)
+dollars-at edition (j ∷ js) (d ∷ ds) zero e h f = f .1 .0
+dollars-at edition (j ∷ js) (d ∷ ds) (suc i) e h f = dollars-at edition js ds i (omega arith) (omega arith) (f .1 .1)

@@ -1,18 +1,20 @@
 -- Numbers of w bits put by pairs. What is left to be put, at a byte, is a field of the bits that are held and then the numbers
 -- left. That field and two numbers are one field, which is as well five bytes and then a field of the bits that are held next. So
--- after the five bytes were put the same is left with two numbers fewer. Assumes nothing.
+-- after the five bytes were put the same is left with two numbers fewer. Eight bits or more that are held are as well a byte and
+-- then a field of fewer bits. Assumes nothing.
 use mathlib.Core.Path.{_≡_, sym, ap, ap₂, _∙_, subst}
 use mathlib.Core.List.{List, [], _∷_}
 use Prim.Native.Nat.{ℕ, _+_, _*_, _/_, _%_, _^_, _≤_, _<_}
 use native.Mathlib.Nat.{div-one, lt-of-lt-of-le}
 use native.Mathlib.Omega.{arith}
+use lib.Dec.{lit≤}
 use lib.ListN.{length, getD, drop, drop-of-length-le}
 use lib.Pow.{pow-mono}
 use Rattle.plan.specs.Field.{field, Slot, slot, slots}
 use Rattle.plan.proofs.Rests.{rest-more}
-use Rattle.bits.specs.Put.{FiveBytes, Put}
+use Rattle.bits.specs.Put.{Room, FiveBytes, Put}
 use Rattle.bits.specs.Runs.{Space, Wrote}
-use Rattle.bits.proofs.Runs.{Putting, putting-as, putting-more, putting-ends}
+use Rattle.bits.proofs.Runs.{room, Putting, putting-as, putting-more, putting-ends}
 use Rattle.bits.proofs.Regrouped.{putting-both, putting-two, putting-starts-before}
 
 -- at the loop's head: all before byte `byte` is put; the first `skip` bits of that byte are held, and then come the numbers
@@ -91,6 +93,29 @@ module _ {w : ℕ} {s : List ℕ} {at : ℕ} {values t : List ℕ} {skip byte he
             within = omega arith;
             putting = putting-as (putting-more grouped (omega arith, p)) (ap (λ (x : ℕ). slot more x ∷ rest) low);
           }
+
+  -- ---- with a byte held at least
+
+  module _ (low : ℕ) (full : skip ≡ 8 + low) where
+    -- a byte, then the bits that are held next
+    parted : Putting s at (slots w values) t (8 * byte)
+        (slot 8 (held / 2 ^ low) ∷ slot low (held % 2 ^ low) ∷ slots w (drop i values))
+    parted = putting-two 8 low (putting-as (g .putting) (ap (λ (v : ℕ). slot v held ∷ slots w (drop i values)) full))
+
+    -- what putting it asks for
+    pub byte-room : Room t (8 * byte) 8 (held / 2 ^ low)
+    byte-room = room (parted .space) (lit≤ tt)
+
+    -- it is put
+    pub pairs-byte : {u : List ℕ} {next : ℕ} → Put t (8 * byte) 8 (held / 2 ^ low) u
+        → next ≡ held / 2 ^ 0 % 2 ^ low → Pairs w s at values u low (byte + 1) next i
+    pairs-byte {u} {next} p e =
+        let rests : held % 2 ^ low ≡ next = ap (λ (x : ℕ). x % 2 ^ low) (sym (div-one held)) ∙ sym e in
+        record {
+          within = g .within;
+          putting =
+              putting-as (putting-more parted (omega arith, p)) (ap (λ (x : ℕ). slot low x ∷ slots w (drop i values)) rests);
+        }
 
   -- ---- with fewer than two, once the bits held are put
 

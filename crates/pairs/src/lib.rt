@@ -1,9 +1,10 @@
-// A run of claims put. In edition 1 they are put by pairs: two claims are five whole bytes, so every pair of a run begins at the
-// same bit of its byte. The bits of the byte that is begun are held in a number: they and a pair, but for the bits that are held
-// next, are five bytes to store. What a pair stored is not looked at again. The places in the loop are made of a byte's number,
-// so that each is seen to begin with a byte: five bytes are then stored without a look at the bit.
+// A run of claims put by pairs. The bits of the byte that is begun are held in a number: they and a pair, but for the bits that
+// are held next, are five bytes to store. In edition 1 two claims are five whole bytes, so every pair of a run begins at the same
+// bit of its byte. In edition 2 two claims have two bits more: after a pair two more are held than before it, and where these are
+// eight or more, one more byte is stored. What a pair stored is not looked at again. The places in the loops are made of a byte's
+// number, so that each is seen to begin with a byte: whole bytes are then stored without a look at the bit.
 ghost use mathlib.Core.Path.{_≡_};
-ghost use Prim.Native.Nat.{_+_, _*_, _^_, _<_};
+ghost use Prim.Native.Nat.{_+_, _*_, _^_, _≤_, _<_};
 ghost use lib.ListN.{length};
 ghost use Rattle.plan.specs.Field.{slots};
 ghost use Rattle.plan.specs.Claim.{dollarsWidth, slotsOfClaims, claimsOf};
@@ -11,20 +12,36 @@ ghost use Rattle.bits.specs.Runs.{Space, Wrote};
 use bits::BitPlace;
 use claims::claim::DOLLARS_WIDTH;
 use claims::claim::JOINING_EDITION;
-use claims::claim::put_claim;
 use words::extract;
 use words::join;
 
-// Bytes of a pair of claims.
+// Bits of a byte.
+const BYTE_WIDTH: u32 = 8;
+
+// Bytes of a pair of claims without bits.
 const PAIR_BYTES: usize = 5;
 
-// The bits that are held, then a pair of claims.
-fn pair_after(held: u64, first: u32, second: u32) -> u64
-    requires { ⌜ (held < 2 ^ 8) × (first < 2 ^ dollarsWidth) × (second < 2 ^ dollarsWidth) ⌝ }
-    ensures { λ r. ⌜ r ≡ (held * 2 ^ dollarsWidth + first) * 2 ^ dollarsWidth + second ⌝ }
+// Bits of a claim with the bit before its dollars, and how many more a pair of those has than the bytes above.
+const BOTH_WIDTH: u32 = 21;
+
+const PAIR_MORE: u32 = 2;
+
+// A claim's bit and its dollars as one number.
+fn as_one(joined: u8, dollars: u32) -> u32
+    requires { ⌜ dollars < 2 ^ dollarsWidth ⌝ }
+    ensures { λ r. ⌜ r ≡ joined * 2 ^ dollarsWidth + dollars ⌝ }
 {
-    let one = join(held, DOLLARS_WIDTH, first as u64);
-    join(one, DOLLARS_WIDTH, second as u64)
+    join(joined as u64, DOLLARS_WIDTH, dollars as u64) as u32
+}
+
+// The bits that are held, then two numbers of `width` bits.
+fn pair_after(held: u64, width: u32, first: u32, second: u32) -> u64
+    requires { ⌜ width ≤ 21 ⌝ }
+    requires { ⌜ (held < 2 ^ 8) × (first < 2 ^ width) × (second < 2 ^ width) ⌝ }
+    ensures { λ r. ⌜ r ≡ (held * 2 ^ width + first) * 2 ^ width + second ⌝ }
+{
+    let one = join(held, width, first as u64);
+    join(one, width, second as u64)
 }
 
 // Puts the dollars of claims that have no bit before them, and gives the place after them.
@@ -39,7 +56,7 @@ fn put_dollars(out: &mut [u8], place: BitPlace, claims: &[u32]) -> BitPlace
     let mut held = begun.value as u64;
     let mut i = 0;
     while i + 1 < claims.len() {
-        let word = pair_after(held, claims[i], claims[i + 1]);
+        let word = pair_after(held, DOLLARS_WIDTH, claims[i], claims[i + 1]);
         BitPlace { at: 8 * byte }.put_five(out, word >> skip);
         held = extract(word, 0, skip);
         byte += PAIR_BYTES;
@@ -59,11 +76,30 @@ fn put_joined(out: &mut [u8], place: BitPlace, joined: &[u8], claims: &[u32]) ->
     ensures { λ r. ⌜ Wrote (now (out .entry)) (place .at) (slotsOfClaims 2 (claimsOf (now (joined .entry)) (now (claims .entry))))
         (now (out .exit)) (r .at) ⌝ }
 {
-    let mut next = place;
+    let mut skip = (place.at % 8) as u32;
+    let mut byte = place.at / 8;
+    let begun = BitPlace { at: 8 * byte }.take(out, skip);
+    let mut held = begun.value as u64;
     let mut i = 0;
-    while i < claims.len() {
-        next = put_claim(out, next, JOINING_EDITION, joined[i] as u32, claims[i]);
-        i += 1;
+    while i + 1 < claims.len() {
+        let one = as_one(joined[i], claims[i]);
+        let two = as_one(joined[i + 1], claims[i + 1]);
+        let word = pair_after(held, BOTH_WIDTH, one, two);
+        skip += PAIR_MORE;
+        BitPlace { at: 8 * byte }.put_five(out, word >> skip);
+        held = extract(word, 0, skip);
+        byte += PAIR_BYTES;
+        i += 2;
+        if BYTE_WIDTH <= skip {
+            skip -= BYTE_WIDTH;
+            BitPlace { at: 8 * byte }.put(out, BYTE_WIDTH, (held >> skip) as u32);
+            held = extract(held, 0, skip);
+            byte += 1;
+        }
+    }
+    let next = BitPlace { at: 8 * byte }.put(out, skip, held as u32);
+    if i < claims.len() {
+        return next.put(out, BOTH_WIDTH, as_one(joined[i], claims[i]));
     }
     next
 }

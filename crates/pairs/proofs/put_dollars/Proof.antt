@@ -74,7 +74,7 @@ shared-slice-read-pair-after-2 c = search needs
 pair-after-requires : tie.Need-pair-after-requires Inv-loop μ-loop
 pair-after-requires c κs =
     let l = c .before .before in
-    pair-fits (l .before .loop .inv) (l .loop-test .taken) (few (l .before))
+    (lit≤ tt, pair-fits (l .before .loop .inv) (l .loop-test .taken) (few (l .before)))
 
 mul-t15 : tie.Need-mul-t15 Inv-loop μ-loop
 mul-t15 c = search needs

@@ -7,8 +7,6 @@ use native.Mathlib.Omega.{arith}
 use borrow.Author.Needs.{needs}
 use lib.Dec.{eqb}
 use lib.ListN.{length, getD}
-use Rattle.plan.specs.Claim.{claimsOf}
-use Rattle.plan.specs.Accidents.{opens}
 use Rattle.writing.specs.Fitting.{OpensSays}
 use Rattle.writing.proofs.fitting.risk_opens.Statement.{statement}
 use Rattle.writing.proofs.fitting.risk_opens.Tie as tie

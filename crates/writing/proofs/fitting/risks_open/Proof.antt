@@ -1,7 +1,7 @@
 -- The invariant: the risks before i were found to open, and those from i on, with the bits from `first` on, do, where all do,
 -- whatever the dollars. The measure is the risks left. Assumes nothing.
 use mathlib.Core.Path.{_≡_, refl, sym, ap, ap₂, _∙_}
-use mathlib.Core.Bool.{Bool, true, _&&_, and-assoc, and-true}
+use mathlib.Core.Bool.{Bool, _&&_, and-assoc, and-true}
 use mathlib.Core.List.{List, _∷_}
 use Prim.Native.Nat.{ℕ, _+_, _-_, _≤_, _<_}
 use native.Mathlib.Omega.{arith}
@@ -11,7 +11,7 @@ use lib.Seq.{drop-drop, length-take-le}
 use Rattle.plan.specs.Arithmetic.{sum}
 use Rattle.plan.specs.Claim.{Claim, claimsOf}
 use Rattle.plan.specs.Risk.{divided}
-use Rattle.plan.specs.Accidents.{opens, allOpen}
+use Rattle.plan.specs.Accidents.{allOpen}
 use Rattle.plan.proofs.Rests.{rest-more}
 use Rattle.plan.proofs.Claims.{take-claims-of, drop-claims-of}
 use Rattle.writing.specs.Fitting.{OpensSays, OpenSays}

@@ -1,5 +1,5 @@
 -- The header, a count for each risk and each claim's bits, of which there are 21 at most, in whole bytes. Assumes nothing.
-use mathlib.Core.Path.{_≡_, ap}
+use mathlib.Core.Path.{ap}
 use Prim.Native.Nat.{ℕ, _+_, _*_, _≤_}
 use native.Mathlib.Omega.{arith}
 use borrow.Author.Needs.{needs}
