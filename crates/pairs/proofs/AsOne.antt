@@ -107,11 +107,12 @@ module _ (edition : ℕ) where
     wrote-plain {t} {q} x =
         wrote-as-one (claimsOf js ds) p (subst (λ (fs : List Slot). Wrote s at fs t q) (sym (plain z js ds e (p .fitting))) x)
 
--- the dollars of each claim fit their field
-pub dollars-at : (edition : ℕ) (js ds : List ℕ) (i : ℕ) → length js ≡ length ds → i < length ds
-    → Fitting (slotsOfClaims edition (claimsOf js ds)) → getD ds i 0 < 2 ^ dollarsWidth
+-- each claim's bit and dollars fit their fields
+pub both-fit : (edition : ℕ) (js ds : List ℕ) (i : ℕ) → length js ≡ length ds → i < length ds
+    → Fitting (slotsOfClaims edition (claimsOf js ds))
+    → (getD js i 0 < 2 ^ joinedWidth edition) × (getD ds i 0 < 2 ^ dollarsWidth)
 unfolding slotsOfClaim
-dollars-at edition js [] i e h f = absurd (omega arith)
-dollars-at edition [] (d ∷ ds) i e h f = absurd (omega arith)
-dollars-at edition (j ∷ js) (d ∷ ds) zero e h f = f .1 .0
-dollars-at edition (j ∷ js) (d ∷ ds) (suc i) e h f = dollars-at edition js ds i (omega arith) (omega arith) (f .1 .1)
+both-fit edition js [] i e h f = absurd (omega arith)
+both-fit edition [] (d ∷ ds) i e h f = absurd (omega arith)
+both-fit edition (j ∷ js) (d ∷ ds) zero e h f = (f .0, f .1 .0)
+both-fit edition (j ∷ js) (d ∷ ds) (suc i) e h f = both-fit edition js ds i (omega arith) (omega arith) (f .1 .1)

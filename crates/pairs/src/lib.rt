@@ -28,7 +28,7 @@ const PAIR_MORE: u32 = 2;
 
 // A claim's bit and its dollars as one number.
 fn as_one(joined: u8, dollars: u32) -> u32
-    requires { ⌜ dollars < 2 ^ dollarsWidth ⌝ }
+    requires { ⌜ (joined < 2) × (dollars < 2 ^ dollarsWidth) ⌝ }
     ensures { λ r. ⌜ r ≡ joined * 2 ^ dollarsWidth + dollars ⌝ }
 {
     join(joined as u64, DOLLARS_WIDTH, dollars as u64) as u32
@@ -76,29 +76,29 @@ fn put_joined(out: &mut [u8], place: BitPlace, joined: &[u8], claims: &[u32]) ->
     ensures { λ r. ⌜ Wrote (now (out .entry)) (place .at) (slotsOfClaims 2 (claimsOf (now (joined .entry)) (now (claims .entry))))
         (now (out .exit)) (r .at) ⌝ }
 {
-    let mut skip = (place.at % 8) as u32;
+    let mut bits = (place.at % 8) as u32;
     let mut byte = place.at / 8;
-    let begun = BitPlace { at: 8 * byte }.take(out, skip);
+    let begun = BitPlace { at: 8 * byte }.take(out, bits);
     let mut held = begun.value as u64;
     let mut i = 0;
     while i + 1 < claims.len() {
         let one = as_one(joined[i], claims[i]);
         let two = as_one(joined[i + 1], claims[i + 1]);
         let word = pair_after(held, BOTH_WIDTH, one, two);
-        skip += PAIR_MORE;
-        BitPlace { at: 8 * byte }.put_five(out, word >> skip);
-        held = extract(word, 0, skip);
+        bits += PAIR_MORE;
+        BitPlace { at: 8 * byte }.put_five(out, word >> bits);
+        held = extract(word, 0, bits);
         byte += PAIR_BYTES;
         i += 2;
-        if BYTE_WIDTH <= skip {
-            skip -= BYTE_WIDTH;
-            BitPlace { at: 8 * byte }.put(out, BYTE_WIDTH, (held >> skip) as u32);
-            held = extract(held, 0, skip);
+        if BYTE_WIDTH <= bits {
+            bits -= BYTE_WIDTH;
+            BitPlace { at: 8 * byte }.put(out, BYTE_WIDTH, (held >> bits) as u32);
+            held = extract(held, 0, bits);
             byte += 1;
         }
     }
-    let next = BitPlace { at: 8 * byte }.put(out, skip, held as u32);
-    if i < claims.len() {
+    let next = BitPlace { at: 8 * byte }.put(out, bits, held as u32);
+    if i < joined.len() {
         return next.put(out, BOTH_WIDTH, as_one(joined[i], claims[i]));
     }
     next

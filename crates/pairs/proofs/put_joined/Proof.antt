@@ -13,7 +13,7 @@ use Rattle.plan.specs.Claim.{dollarsWidth, slotsOfClaims, claimsOf}
 use Rattle.bits.specs.Put.{FiveBytes, Put}
 use Rattle.bits.specs.Runs.{Space, Wrote}
 use Rattle.bits.proofs.Runs.{room, Putting, putting-as, putting-more, putting-ends}
-use Rattle.pairs.proofs.AsOne.{values, length-values, value-at, dollars-at, space-as-one, wrote-as-one}
+use Rattle.pairs.proofs.AsOne.{values, length-values, value-at, both-fit, space-as-one, wrote-as-one}
 use Rattle.pairs.proofs.ByPairs.{
   Pairs,
   pairs-start,
@@ -30,12 +30,12 @@ use Rattle.pairs.proofs.put_joined.Statement.{statement}
 use Rattle.pairs.proofs.put_joined.Tie as tie
 
 -- at the loop's head
-record Joined (s : List ℕ) (at : ℕ) (js ds t : List ℕ) (skip byte held i : ℕ) : Type 0 where
+record Joined (s : List ℕ) (at : ℕ) (js ds t : List ℕ) (bits byte held i : ℕ) : Type 0 where
   within : i ≤ length ds
-  few : skip < 8
-  pairs : Pairs 21 s at (values js ds) t skip byte held i
+  few : bits < 8
+  pairs : Pairs 21 s at (values js ds) t bits byte held i
 
-module _ {s : List ℕ} {at : ℕ} {js ds t : List ℕ} {skip byte held i : ℕ} (g : Joined s at js ds t skip byte held i)
+module _ {s : List ℕ} {at : ℕ} {js ds t : List ℕ} {bits byte held i : ℕ} (g : Joined s at js ds t bits byte held i)
     (e : length js ≡ length ds) where
   -- ---- with two claims left at least
 
@@ -52,8 +52,8 @@ module _ {s : List ℕ} {at : ℕ} {js ds t : List ℕ} {skip byte held i : ℕ}
       two : y ≡ getD (values js ds) (i + 1) 0
       two = q ∙ value-at js ds (i + 1) e h
 
-      both-fit : (held < 2 ^ 8) × (x < 2 ^ 21) × (y < 2 ^ 21)
-      both-fit =
+      pair-fit : (held < 2 ^ 8) × (x < 2 ^ 21) × (y < 2 ^ 21)
+      pair-fit =
           let f = pair-fits (g .pairs) more (g .few) in
           (f .0, subst (λ (z : ℕ). z < 2 ^ 21) (sym one) (f .1), subst (λ (z : ℕ). z < 2 ^ 21) (sym two) (f .2))
 
@@ -62,16 +62,16 @@ module _ {s : List ℕ} {at : ℕ} {js ds t : List ℕ} {skip byte held i : ℕ}
         as-values : word ≡ (held * 2 ^ 21 + getD (values js ds) i 0) * 2 ^ 21 + getD (values js ds) (i + 1) 0
         as-values = is ∙ ap₂ (λ (a b : ℕ). (held * 2 ^ 21 + a) * 2 ^ 21 + b) one two
 
-        five : FiveBytes t (8 * byte) (word / 2 ^ (skip + 2))
-        five = five-bytes (g .pairs) more (skip + 2) as-values (omega arith)
+        five : FiveBytes t (8 * byte) (word / 2 ^ (bits + 2))
+        five = five-bytes (g .pairs) more (bits + 2) as-values (omega arith)
 
-        after-five : {u : List ℕ} {next : ℕ} → Put t (8 * byte) 40 (word / 2 ^ (skip + 2)) u
-            → next ≡ word / 2 ^ 0 % 2 ^ (skip + 2) → Pairs 21 s at (values js ds) u (skip + 2) (byte + 5) next (i + 2)
-        after-five = pairs-more (g .pairs) more (skip + 2) as-values (omega arith)
+        after-five : {u : List ℕ} {next : ℕ} → Put t (8 * byte) 40 (word / 2 ^ (bits + 2)) u
+            → next ≡ word / 2 ^ 0 % 2 ^ (bits + 2) → Pairs 21 s at (values js ds) u (bits + 2) (byte + 5) next (i + 2)
+        after-five = pairs-more (g .pairs) more (bits + 2) as-values (omega arith)
 
   -- ---- with fewer than two, once the bits held are put
 
-  module _ (h : length ds ≤ i + 1) {u : List ℕ} {q : ℕ} (p : (q ≡ 8 * byte + skip) × Put t (8 * byte) skip held u) where
+  module _ (h : length ds ≤ i + 1) {u : List ℕ} {q : ℕ} (p : (q ≡ 8 * byte + bits) × Put t (8 * byte) bits held u) where
     fewer : length (values js ds) ≤ i + 1
     fewer = omega (arith, h, length-values js ds e)
 
@@ -85,11 +85,11 @@ module _ {s : List ℕ} {at : ℕ} {js ds t : List ℕ} {skip byte held i : ℕ}
     all-put l = none-left (g .pairs) fewer p (omega (arith, l, length-values js ds e))
 
 abbrev Inv-loop : tie.InvT-loop
-Inv-loop out₀ joined claims skip₀ byte₀ held₀ i₀ out skip byte held i =
-    Joined out₀ (8 * byte₀ + skip₀) joined claims out skip byte held i
+Inv-loop out₀ joined claims bits₀ byte₀ held₀ i₀ out bits byte held i =
+    Joined out₀ (8 * byte₀ + bits₀) joined claims out bits byte held i
 
 abbrev μ-loop : tie.MeasureT-loop
-μ-loop out₀ joined claims skip₀ byte₀ held₀ i₀ out skip byte held i = length claims - i
+μ-loop out₀ joined claims bits₀ byte₀ held₀ i₀ out bits byte held i = length claims - i
 
 -- a place is at a bit of its byte
 in-byte : (at : ℕ) → at ≡ 8 * (at / 8) + at % 8
@@ -103,17 +103,17 @@ entry c = c .before .before .before .before .before .before .before .before .bef
 same : (c : tie.At-loop Inv-loop μ-loop) → length (entry c .args .joined .now) ≡ length (entry c .args .claims .now)
 same c = entry c .pre .1
 
--- the dollars of a claim fit
-dollars-fit : (c : tie.At-loop Inv-loop μ-loop) (i : ℕ)
+-- a claim's bit and dollars fit
+claim-fits : (c : tie.At-loop Inv-loop μ-loop) (i : ℕ)
     → let a = entry c .args in
-    i < length (a .claims .now) → getD (a .claims .now) i 0 < 2 ^ dollarsWidth
-dollars-fit c i h =
+    i < length (a .claims .now) → (getD (a .joined .now) i 0 < 2) × (getD (a .claims .now) i 0 < 2 ^ dollarsWidth)
+claim-fits c i h =
     let s = entry c in
     let a = s .args in
-    dollars-at 2 (a .joined .now) (a .claims .now) i (s .pre .1) h (s .pre .0 .fitting)
+    both-fit 2 (a .joined .now) (a .claims .now) i (s .pre .1) h (s .pre .0 .fitting)
 
-cast-skip : tie.Need-cast-skip Inv-loop μ-loop
-cast-skip c = search needs
+cast-bits : tie.Need-cast-bits Inv-loop μ-loop
+cast-bits c = search needs
 
 mul-if2 : tie.Need-mul-if2 Inv-loop μ-loop
 mul-if2 c = search needs
@@ -151,7 +151,7 @@ shared-slice-read-as-one-2 : tie.Need-shared-slice-read-as-one-2 Inv-loop μ-loo
 shared-slice-read-as-one-2 c = search needs
 
 as-one-requires : tie.Need-as-one-requires Inv-loop μ-loop
-as-one-requires c κs = let l = c .before .before in dollars-fit (l .before) _ (omega (arith, l .loop-test .taken))
+as-one-requires c κs = let l = c .before .before in claim-fits (l .before) _ (omega (arith, l .loop-test .taken))
 
 add-as-one : tie.Need-add-as-one Inv-loop μ-loop
 add-as-one c = search needs
@@ -169,14 +169,14 @@ shared-slice-read-as-one-4 : tie.Need-shared-slice-read-as-one-4 Inv-loop μ-loo
 shared-slice-read-as-one-4 c = search needs
 
 as-one-requires-2 : tie.Need-as-one-requires-2 Inv-loop μ-loop
-as-one-requires-2 c κs = let l = c .before .before .before .before .before in dollars-fit (l .before) _ (l .loop-test .taken)
+as-one-requires-2 c κs = let l = c .before .before .before .before .before in claim-fits (l .before) _ (l .loop-test .taken)
 
 pair-after-requires : tie.Need-pair-after-requires Inv-loop μ-loop
 pair-after-requires c κs =
     let first = c .before .before .before in
     let l = first .before .before .before in
     let h = l .before in
-    (lit≤ tt, both-fit (h .loop .inv) (same h) (l .loop-test .taken) (first .as-one .ensures) (c .as-one2 .ensures))
+    (lit≤ tt, pair-fit (h .loop .inv) (same h) (l .loop-test .taken) (first .as-one .ensures) (c .as-one2 .ensures))
 
 -- from the word the first claim, the loop's test and the loop's head
 abbrev first-of : tie.After-pair-after Inv-loop μ-loop → tie.After-as-one Inv-loop μ-loop
@@ -188,8 +188,8 @@ tested w = first-of w .before .before .before
 abbrev head : tie.In-loop Inv-loop μ-loop → tie.At-loop Inv-loop μ-loop
 head l = l .before
 
-add-skip : tie.Need-add-skip Inv-loop μ-loop
-add-skip c = search needs
+add-bits : tie.Need-add-bits Inv-loop μ-loop
+add-bits c = search needs
 
 mul-t19 : tie.Need-mul-t19 Inv-loop μ-loop
 mul-t19 c = search needs
@@ -225,7 +225,7 @@ put-five : (x : tie.After-extract Inv-loop μ-loop)
     → let h = head (tested (word-of x)) in
     let a = entry h .args in
     Pairs 21 (a .out .now) (8 * (a .place .at / 8) + a .place .at % 8) (values (a .joined .now) (a .claims .now))
-    (x .before .before .before .put-five .last .1 .0) (h .loop .skip + 2) (h .loop .byte + 5) (x .extract .result)
+    (x .before .before .before .put-five .last .1 .0) (h .loop .bits + 2) (h .loop .byte + 5) (x .extract .result)
     (h .loop .i + 2)
 put-five x =
     let w = word-of x in
@@ -236,7 +236,7 @@ put-five x =
 -- the bits that are held are a byte and more
 eight : (t : tie.Then1 Inv-loop μ-loop)
     → let h = head (tested (word-of (t .before))) in
-    h .loop .skip + 2 ≡ 8 + (h .loop .skip + 2 - 8)
+    h .loop .bits + 2 ≡ 8 + (h .loop .bits + 2 - 8)
 eight t = omega (arith, t .if1 .taken)
 
 mul-t35 : tie.Need-mul-t35 Inv-loop μ-loop
@@ -309,7 +309,8 @@ shared-slice-read-as-one-6 c = search needs
 as-one-requires-3 : tie.Need-as-one-requires-3 Inv-loop μ-loop
 as-one-requires-3 c κs =
     let t = c .before .before .before in
-    dollars-fit (t .before .before .before .before .before .before) _ (omega (arith, t .if2 .taken))
+    let h = t .before .before .before .before .before .before in
+    claim-fits h _ (omega (arith, t .if2 .taken, same h))
 
 -- from the last claim the loop's head, and what is left to be put
 abbrev ended : tie.After-as-one3 Inv-loop μ-loop → tie.At-loop Inv-loop μ-loop
@@ -325,7 +326,7 @@ one-more c =
     let put = t .before .before .before in
     let l = put .before .before in
     let h = l .before in
-    one-left (h .loop .inv) (same h) (l .loop-test .left) (put .put2 .ensures) (omega (arith, t .if2 .taken))
+    one-left (h .loop .inv) (same h) (l .loop-test .left) (put .put2 .ensures) (omega (arith, t .if2 .taken, same h))
     (c .as-one3 .ensures)
 
 put-requires-3 : tie.Need-put-requires-3 Inv-loop μ-loop
@@ -360,7 +361,8 @@ returns-2 c =
     let put = c .before .before .before in
     let l = put .before .before in
     let h = l .before in
-    back (entry h) (all-put (h .loop .inv) (same h) (l .loop-test .left) (put .put2 .ensures) (c .if2 .left))
+    back (entry h)
+    (all-put (h .loop .inv) (same h) (l .loop-test .left) (put .put2 .ensures) (omega (arith, c .if2 .left, same h)))
 
 pub put-joined-spec : {M : Type 1} → statement M
 put-joined-spec =
@@ -368,7 +370,7 @@ put-joined-spec =
     (tie.spec
     Inv-loop
     μ-loop
-    cast-skip
+    cast-bits
     mul-if2
     take-requires
     cast-held
@@ -385,7 +387,7 @@ put-joined-spec =
     shared-slice-read-as-one-4
     as-one-requires-2
     pair-after-requires
-    add-skip
+    add-bits
     mul-t19
     cast-put-five
     shr-put-five
