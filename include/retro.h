@@ -2,7 +2,10 @@
  * retro.h: retrospective premiums balanced on a group's own Table M.
  *
  * A group file holds one size group: 1 to 255 risks with the same standard premium, each with 0 to
- * 63 claims. The calls rate such a file (retro_rate), rate it beside guaranteed cost
+ * 63 claims. There are two editions of it. In edition 2 each claim has a bit before its dollars: 1
+ * where it belongs to the same accident as the claim before it in that risk, else 0. The loss limit
+ * applies to an accident's sum. In edition 1 a claim has no bit, and each is its own accident. Every
+ * call takes a file of either edition. The calls rate such a file (retro_rate), rate it beside guaranteed cost
  * (retro_guaranteed), give the group's charge and savings at an entry ratio (retro_table), take a
  * file apart (retro_read) and make one (retro_write).
  *
@@ -20,7 +23,7 @@
  * holds what it held before the call.
  *
  *      1  Has the file at least 16 bytes?
- *      2  Is the edition 1 and the spare bit 0?
+ *      2  Is the edition 1 or 2, and the spare bit 0?
  *      3  Is the standard premium at least 1?
  *      4  Is the loss conversion factor from 1,000 to 2,000 thousandths?
  *      5  Is the tax multiplier from 10,000 to 20,000 ten-thousandths?
@@ -34,16 +37,18 @@
  *     13  Is each lent buffer long enough?
  *     14  Is the entry ratio at most 600 hundredths?
  *     15  Do the number of risks, the counts, the claims and the header values fit their widths in
- *         the file, and do the counts add to the number of claims?
+ *         the file, and do the counts add to the number of claims? Is there a bit for each claim,
+ *         no bit above 1, and in edition 1 no bit above 0?
  *     16  Are all four rates of the schedule at most 1,000 tenths of a percent?
  *     17  Are the first three widths of the schedule at least 1?
  *     18  Is the minimum mark at most the maximum mark, both as written in thousandths?
+ *     19  Does the first claim of each risk open an accident: is its bit 0?
  *
- *     retro_rate        asks 1 to 6, 18, 7 to 13
- *     retro_guaranteed  asks 1 to 6, 18, 7 to 13, then 16, then 17
- *     retro_table       asks 1 to 6, 18, 7 to 10, then 14
- *     retro_read        asks 1 to 6, 18, 7 to 9, then 13
- *     retro_write       asks 3 to 6, 18, 7, then 15, then 13
+ *     retro_rate        asks 1 to 6, 18, 7 to 9, 19, 10 to 13
+ *     retro_guaranteed  asks 1 to 6, 18, 7 to 9, 19, 10 to 13, then 16, then 17
+ *     retro_table       asks 1 to 6, 18, 7 to 9, 19, 10, then 14
+ *     retro_read        asks 1 to 6, 18, 7 to 9, 19, then 13
+ *     retro_write       asks 2 of the edition, 3 to 6, 18, 7, then 15, then 19, then 13
  *
  * 11 is still asked, but no file can be made any more that is refused with it: marks that are in
  * order as written are in order in whole dollars.
@@ -79,11 +84,11 @@ extern "C" {
 /* The most risks and the most claims of a group, and the length in bytes of the largest file. */
 #define RETRO_MOST_RISKS 255
 #define RETRO_MOST_CLAIMS 16065
-#define RETRO_LARGEST_FILE 40370
+#define RETRO_LARGEST_FILE 42378
 
 /* The header values of a group file, in file order, each with what retro_write takes. */
 typedef struct retro_header {
-    uint32_t loss_limit;       /* dollars per claim, 0 for no limit; at most 1,048,575 */
+    uint32_t loss_limit;       /* dollars per accident, 0 for no limit; at most 1,048,575 */
     uint32_t standard_premium; /* dollars; 1 to 4,194,303 */
     uint32_t expense;          /* expense provision per risk without taxes, dollars; to 1,048,575 */
     uint32_t conversion;       /* loss conversion factor, thousandths; 1,000 to 2,000 */
@@ -118,6 +123,7 @@ typedef struct retro_group {
     uint32_t mark_kind;
     uint32_t maximum_mark;
     uint32_t minimum_mark;
+    uint32_t edition; /* 1 or 2 */
 } retro_group;
 
 /*
@@ -192,34 +198,42 @@ uint32_t retro_table(const uint8_t *file, size_t file_len, uint32_t entry_ratio,
                      uint32_t *savings);
 
 /*
- * Takes a group file apart. The answer has the number of risks and the header values.
+ * Takes a group file apart. The answer has the number of risks, the header values and the edition.
  *
  *     counts  gets the number of claims of each risk in file order.
  *     claims  gets all claims in dollars: those of the first risk, then those of the second, and so
  *             on. claims_len counts numbers, not bytes.
+ *     joined  gets the bit of each claim in the same order: 1 where it belongs to the same accident
+ *             as the claim before it in that risk, else 0. For a file of edition 1 all are 0.
  *
- * As many entries as there are risks and claims are enough, so RETRO_MOST_RISKS counts and
- * RETRO_MOST_CLAIMS claims always are. Later entries keep their contents.
+ * As many entries as there are risks, claims and claims again are enough, in edition 1 too, so
+ * RETRO_MOST_RISKS counts, RETRO_MOST_CLAIMS claims and RETRO_MOST_CLAIMS bits always are. Later
+ * entries keep their contents.
  */
 retro_group retro_read(const uint8_t *file, size_t file_len, uint8_t *counts, size_t counts_len,
-                       uint32_t *claims, size_t claims_len);
+                       uint32_t *claims, size_t claims_len, uint8_t *joined, size_t joined_len);
 
 /*
  * Makes a group file, of which retro_read gives the same values back.
  *
- *     header  has the header values. Edition and spare bit are written as 1 and 0.
- *     counts  has the number of claims of each risk, 0 to 63. There are as many risks as counts, 1
- *             to 255.
- *     claims  has all claims in dollars in the order of retro_read, each at most 1,048,575.
- *     file    gets the file's bytes. RETRO_LARGEST_FILE bytes are always enough. Bytes after the
- *             file keep their contents.
- *     length  gets the number of bytes of the file.
+ *     edition  is 1 or 2. The spare bit is written as 0.
+ *     header   has the header values.
+ *     counts   has the number of claims of each risk, 0 to 63. There are as many risks as counts, 1
+ *              to 255.
+ *     claims   has all claims in dollars in the order of retro_read, each at most 1,048,575.
+ *     joined   has the bit of each claim, as many as there are claims: 1 where it belongs to the same
+ *              accident as the claim before it in that risk, else 0. The first of a risk is 0. In
+ *              edition 1, whose claims have no bits, all are 0.
+ *     file     gets the file's bytes. RETRO_LARGEST_FILE bytes are always enough. Bytes after the
+ *              file keep their contents.
+ *     length   gets the number of bytes of the file.
  *
  * The file may yet be refused with 10 or 12 by retro_rate and retro_guaranteed, and with 10 by
  * retro_table.
  */
-uint32_t retro_write(retro_header header, const uint8_t *counts, size_t counts_len,
-                     const uint32_t *claims, size_t claims_len, uint8_t *file, size_t file_len,
+uint32_t retro_write(uint32_t edition, retro_header header, const uint8_t *counts,
+                     size_t counts_len, const uint32_t *claims, size_t claims_len,
+                     const uint8_t *joined, size_t joined_len, uint8_t *file, size_t file_len,
                      size_t *length);
 
 #ifdef __cplusplus
