@@ -3,23 +3,22 @@
 -- law of a claim more. Assumes nothing.
 use mathlib.Core.Path.{_≡_, refl, sym, ap, ap₂, _∙_}
 use mathlib.Core.List.{List}
-use Prim.Native.Nat.{ℕ, zero, suc, _+_, _-_, _*_, _%_, _^_, _≤_, _<_, min}
+use Prim.Native.Nat.{ℕ, zero, suc, _+_, _-_, _*_, _/_, _%_, _^_, _≤_, _<_, min}
 use native.Mathlib.Omega.{arith}
 use Rattle.plan.specs.Field.{field}
 use Rattle.plan.specs.Sizes.{largestClaim, mostClaims, mostRiskLosses}
 use Rattle.plan.specs.Header.{editionOf}
-use Rattle.plan.specs.Claim.{Claim, claim, joined, dollars, joinedWidth, claimWidth, claimAt, pastClaim, claimsFrom, pastClaims}
+use Rattle.plan.specs.Claim.{Claim, claim, joined, dollars, joinedWidth, dollarsWidth, claimWidth, claimAt, claimsFrom, pastClaims}
 use Rattle.plan.specs.Losses.{limitedTo, totalOf, limitedOf}
-use Rattle.plan.proofs.Claims.{width-is, joined-at, past-claim, past-more}
+use Rattle.plan.proofs.Claims.{width-is, joined-at, dollars-at, past-claim, past-more}
 use Rattle.plan.proofs.Accidents.{lastOf, last-le}
 use Rattle.plan.proofs.Losses.{most-limited, beforeLimited, limited-parts, limited-total, total-so-far, last-opened, before-opened}
 use Rattle.plan.proofs.Losses.{last-joined, before-joined, claims-total-le}
 use Rattle.bits.specs.Take.{Ahead}
-use Rattle.bits.proofs.Fronts.{front-is, ahead-past}
-use Rattle.claims.specs.Claim.{frontClaim}
+use Rattle.bits.proofs.Fronts.{front-part}
+use Rattle.claims.specs.Claim.{claimIn}
 use Rattle.claims.specs.Walks.{AccidentRoom, AccidentAdded}
 use Rattle.claims.specs.declared.walk.AccidentSums.{AccidentSums}
-use Rattle.claims.proofs.Walking.{front-dollars}
 
 -- of claims from `at` on, i are summed
 pub record Joining (s : List ℕ) (at limit i : ℕ) (r : AccidentSums) : Type 0 where
@@ -105,24 +104,32 @@ module _ (s : List ℕ) (two : joinedWidth (editionOf s) ≡ 1) where
   pub double-width : claimWidth (editionOf s) ≡ 21
   double-width = omega (arith, width-is (editionOf s), two)
 
-  -- the claim on the front of a word is the one at the place
-  front-claim : (at : ℕ) {n word : ℕ} → Ahead s at n word → 21 ≤ n → frontClaim word ≡ claimAt s at
-  front-claim at {n} {word} a h =
-      ap₂ claim
-      (front-is a 1 (omega arith) ∙ ap (field s at) (sym two) ∙ sym (joined-at s at))
-      (front-dollars s at (ahead-past a 1 (omega arith)) (omega (arith, two)) (omega arith))
-      ∙ parts (claimAt s at)
+  -- a claim that lies in a word, of which n bits are ahead, after m of them
+  claim-there : (at : ℕ) {p n word : ℕ} (m low : ℕ) → Ahead s p n word → m + 21 ≤ n → m + 21 + low ≡ 64 → p + m ≡ at
+      → claimIn word low ≡ claimAt s at
+  claim-there at {p} {n} {word} m low a h e place =
+      let bit : word / 2 ^ (low + dollarsWidth) % 2 ^ 1 ≡ joined (claimAt s at) =
+      ap (λ (k : ℕ). word / 2 ^ k % 2 ^ 1) (omega (arith, e))
+      ∙ front-part a (m + 1) (omega arith) 1 (omega arith)
+      ∙ ap₂ (field s) (omega (arith, place)) (sym two)
+      ∙ sym (joined-at s at) in
+      let sum : word / 2 ^ low % 2 ^ dollarsWidth ≡ dollars (claimAt s at) =
+      ap (λ (k : ℕ). word / 2 ^ k % 2 ^ dollarsWidth) (omega (arith, e))
+      ∙ front-part a (m + 21) (omega arith) dollarsWidth (omega arith)
+      ∙ ap (λ (x : ℕ). field s x dollarsWidth) (omega (arith, place, two))
+      ∙ sym (dollars-at s at) in
+      ap₂ claim bit sum ∙ parts (claimAt s at)
     where
       parts : (c : Claim) → claim (joined c) (dollars c) ≡ c
       parts (claim j d) = refl
 
   module _ (at i : ℕ) {p n word : ℕ} (here : p ≡ pastClaims s at i) (a : Ahead s p n word) where
-    -- the claim after i others
-    pub front-here : 21 ≤ n → frontClaim word ≡ claimAt s (pastClaims s at i)
-    front-here h = front-claim _ a h ∙ ap (claimAt s) here
+    -- the claim after i others is on the front
+    pub front-here : 21 ≤ n → claimIn word 43 ≡ claimAt s (pastClaims s at i)
+    front-here h = claim-there (pastClaims s at i) 0 43 a h refl (omega (arith, here))
 
-    -- and the one behind it after a shift
-    pub front-behind : 42 ≤ n → frontClaim ((word * 2 ^ 21) % 2 ^ 64) ≡ claimAt s (pastClaims s at (i + 1))
+    -- and the next one behind it
+    pub front-behind : 42 ≤ n → claimIn word 22 ≡ claimAt s (pastClaims s at (i + 1))
     front-behind h =
-        front-claim _ (ahead-past a 21 (omega arith)) (omega arith)
-        ∙ ap (claimAt s) (omega (arith, here, past-more s at i, past-claim s (pastClaims s at i), double-width))
+        claim-there (pastClaims s at (i + 1)) 21 22 a h refl
+        (omega (arith, here, past-more s at i, past-claim s (pastClaims s at i), double-width))

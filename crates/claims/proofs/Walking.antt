@@ -2,10 +2,12 @@
 -- sums are those of its first i claims; after k risks the running sums are those over the first k, and the stored losses theirs. Each
 -- law takes one claim, or one risk, more. Assumes nothing.
 use mathlib.Core.Path.{_≡_, refl, sym, ap, ap₂, _∙_, subst}
-use mathlib.Core.Bool.{Bool, true, _&&_}
+use mathlib.Core.Bool.{Bool, true, _&&_, _||_}
 use mathlib.Core.List.{List, [], _∷_, _++_, map}
-use Prim.Native.Nat.{ℕ, _+_, _*_, _%_, _^_, _≤_, _<_, min}
+use Prim.Native.Nat.{ℕ, zero, suc, _+_, _*_, _%_, _^_, _≤_, _<_, min}
 use native.Mathlib.Omega.{arith}
+use borrow.Author.Tests.{eq-eqb, ne-eqb}
+use lib.Dec.{eqb}
 use lib.ListN.{set, replicate}
 use Rattle.plan.specs.Arithmetic.{sum}
 use Rattle.plan.specs.Field.{field}
@@ -26,12 +28,12 @@ use Rattle.plan.proofs.Filled.{filled-none}
 use Rattle.group.specs.Values.{firstOf}
 use Rattle.group.proofs.Losses.{first-more}
 use Rattle.bits.specs.Take.{Ahead, FrontReach}
-use Rattle.bits.specs.declared.Taken.{Taken}
 use Rattle.bits.specs.declared.BitPlace.{BitPlace}
 use Rattle.bits.proofs.Fronts.{front-is, ahead-past}
 use Rattle.claims.specs.Claim.{ClaimReach, frontDollars}
-use Rattle.claims.specs.Walks.{ClaimRoom, ClaimAdded, CountIs, RiskIs, SumsAre, RiskPassed}
+use Rattle.claims.specs.Walks.{ClaimRoom, ClaimAdded, HeadIs, RiskIs, SumsAre, RiskPassed}
 use Rattle.claims.specs.declared.walk.ClaimSums.{ClaimSums}
+use Rattle.claims.specs.declared.walk.RiskHead.{RiskHead}
 use Rattle.claims.specs.declared.walk.Risk.{Risk}
 use Rattle.claims.specs.declared.walk.SumsSoFar.{SumsSoFar}
 use Rattle.claims.specs.declared.walk.PassedRisk.{PassedRisk}
@@ -112,6 +114,21 @@ module _ (s : List ℕ) (one : joinedWidth (editionOf s) ≡ 0) where
           front-dollars s (pastClaims s at (i + 1)) (ahead-past a dollarsWidth (omega arith))
           (omega (arith, here, one, past-more s at i, past-claim s (pastClaims s at i), single-width)) (omega arith)
 
+-- ---- what a risk begins with
+
+-- claims without bits open an accident each
+pub single-opens : (s : List ℕ) (at k : ℕ) → joinedWidth (editionOf s) ≡ 0 → opens (claimsFrom s at k) ≡ true
+single-opens s at zero e = refl
+single-opens s at (suc k) e = eq-eqb _ _ (not-joined s at e)
+
+-- with bits: where there is none, or the first one's bit is 0
+pub joined-opens : (s : List ℕ) (at : ℕ) {k b : ℕ} (n : ℕ) → k ≡ n → b ≡ joined (claimAt s at)
+    → (eqb k 0 || eqb b 0) ≡ opens (claimsFrom s at n)
+joined-opens s at {k} {b} zero e f = ap (λ (x : ℕ). eqb x 0 || eqb b 0) e
+joined-opens s at {k} {b} (suc n) e f =
+    ap₂ (λ (x y : ℕ). eqb x 0 || eqb y 0) e f
+    ∙ ap (λ (z : Bool). z || eqb (joined (claimAt s at)) 0) (ne-eqb (suc n) 0 (λ z. omega (arith, z)))
+
 -- ---- the counts alone
 
 -- the first k + 1 counts add to what the first k add to, and the next
@@ -142,22 +159,18 @@ module _ {s : List ℕ} {k p claims : ℕ} {opened : Bool} (w : Counting s k p c
   counting-most = omega (arith, w .claims-are, counts-le s headerBits k)
 
   -- one count more, as the code has it: taken at p, the first of as many claims looked at, and the place after them
-  pub counting-more : {t : Taken} {q edition : ℕ} {b : Bool} → CountIs s p t → edition ≡ editionOf s
-      → b ≡ opens (claimsFrom s (t .next .at) (t .value)) → q ≡ t .next .at + claimWidth edition * t .value
-      → Counting s (k + 1) q (claims + t .value) (opened && b)
-  counting-more {t} {q} {edition} {b} x same o e =
-      let count : t .value ≡ countAt s p = x .is in
+  pub counting-more : {t : RiskHead} {q edition : ℕ} → HeadIs s p t → edition ≡ editionOf s
+      → q ≡ t .next .at + claimWidth edition * t .count → Counting s (k + 1) q (claims + t .count) (opened && t .opened)
+  counting-more {t} {q} {edition} x same e =
       let end : q ≡ pastRisk s p =
       e
-      ∙ ap (λ (d : ℕ). t .next .at + claimWidth d * t .value) same
-      ∙ ap₂ (λ (a n : ℕ). a + claimWidth (editionOf s) * n) (x .next) count
+      ∙ ap (λ (d : ℕ). t .next .at + claimWidth d * t .count) same
+      ∙ ap₂ (λ (a n : ℕ). a + claimWidth (editionOf s) * n) (x .next) (x .is)
       ∙ sym (past-claims s (firstClaim p) (countAt s p)) in
-      let first : b ≡ opens (claimsAt s (pastRisks s headerBits k)) =
-      o ∙ ap₂ (λ (a n : ℕ). opens (claimsFrom s a n)) (x .next) count ∙ ap (λ (a : ℕ). opens (claimsAt s a)) (w .place) in
       record {
         place = end ∙ ap (pastRisk s) (w .place) ∙ sym (past-risks-more s headerBits k);
-        claims-are = ap₂ _+_ (w .claims-are) (count ∙ ap (countAt s) (w .place)) ∙ sym (counts-sum s k);
-        opened-is = ap₂ _&&_ (w .opened-is) first ∙ sym (open-sum s k);
+        claims-are = ap₂ _+_ (w .claims-are) (x .is ∙ ap (countAt s) (w .place)) ∙ sym (counts-sum s k);
+        opened-is = ap₂ _&&_ (w .opened-is) (x .opened ∙ ap (λ (a : ℕ). opens (claimsAt s a)) (w .place)) ∙ sym (open-sum s k);
       }
 
 -- ---- the risks of a file

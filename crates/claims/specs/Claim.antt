@@ -22,13 +22,10 @@ pub record ClaimTaken (s : List ℕ) (at : ℕ) (r : TakenClaim) : Type 0 where
   pub is : r .dollars ≡ dollars (claimAt s at)
   pub next : r .next .at ≡ pastClaim s at
 
--- the bit on the front of a word of 64 bits, and the dollars
-abbrev pub frontJoined : ℕ → ℕ
-frontJoined w = w / 2 ^ 63
-
+-- the dollars on the front of a word of 64 bits
 abbrev pub frontDollars : ℕ → ℕ
 frontDollars w = w / 2 ^ (64 - dollarsWidth)
 
--- a claim with its bit on the front of a word: the bit, and the dollars behind it
-abbrev pub frontClaim : ℕ → Claim
-frontClaim w = claim (frontJoined w) (frontDollars ((w * 2 ^ 1) % 2 ^ 64))
+-- a claim with its bit in a word, above its `low` lowest bits: the dollars, and the bit above them
+abbrev pub claimIn : ℕ → ℕ → Claim
+claimIn w low = claim (w / 2 ^ (low + dollarsWidth) % 2 ^ 1) (w / 2 ^ low % 2 ^ dollarsWidth)

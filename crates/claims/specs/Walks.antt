@@ -13,6 +13,7 @@ use Rattle.bits.specs.declared.Taken.{Taken}
 use Rattle.group.specs.Values.{firstOf}
 use Rattle.claims.specs.declared.walk.ClaimSums.{ClaimSums}
 use Rattle.claims.specs.declared.walk.AccidentSums.{AccidentSums}
+use Rattle.claims.specs.declared.walk.RiskHead.{RiskHead}
 use Rattle.claims.specs.declared.walk.ClaimRun.{ClaimRun}
 use Rattle.claims.specs.declared.walk.Risk.{Risk}
 use Rattle.claims.specs.declared.walk.SumsSoFar.{SumsSoFar}
@@ -62,6 +63,12 @@ pub record RunEnded (r : AccidentSums) (most p : ℕ) (q : ClaimRun) : Type 0 wh
 -- the count of the risk that begins at the place `at`, and the place of its first claim
 pub record CountIs (s : List ℕ) (at : ℕ) (r : Taken) : Type 0 where
   pub is : r .value ≡ countAt s at
+  pub next : r .next .at ≡ firstClaim at
+
+-- the same, and whether that claim opens an accident
+pub record HeadIs (s : List ℕ) (at : ℕ) (r : RiskHead) : Type 0 where
+  pub is : r .count ≡ countAt s at
+  pub opened : r .opened ≡ opens (claimsAt s at)
   pub next : r .next .at ≡ firstClaim at
 
 -- the first k claims from the place `at` on: L, A, and the place after them

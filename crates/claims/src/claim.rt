@@ -7,7 +7,7 @@ ghost use Rattle.plan.specs.Field.{fits};
 ghost use Rattle.plan.specs.Header.{editionOf};
 ghost use Rattle.plan.specs.Claim.{claim, joinedWidth, dollarsWidth, claimWidth, slotsOfClaim};
 ghost use Rattle.bits.specs.Runs.{Space, Wrote};
-ghost use Rattle.claims.specs.Claim.{ClaimReach, ClaimTaken, RunReach, frontJoined, frontDollars};
+ghost use Rattle.claims.specs.Claim.{ClaimReach, ClaimTaken, RunReach, frontDollars};
 use bits::BitPlace;
 use words::extract;
 use words::highest;
@@ -77,13 +77,6 @@ pub fn claim_at(file: &[u8], place: BitPlace, edition: u32, reach: usize) -> Tak
         dollars,
         next,
     }
-}
-
-// The bit on the front of a word: its highest.
-pub fn joined_ahead(word: u64) -> u32
-    ensures { λ r. ⌜ r ≡ frontJoined word ⌝ }
-{
-    highest(word, 1) as u32
 }
 
 // The dollars on the front of a word: its highest bits.

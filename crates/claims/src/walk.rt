@@ -3,22 +3,19 @@
 // length, since bits past the end are 0, so it is a matter of the bytes alone.
 ghost use mathlib.Core.Path.{_≡_};
 ghost use Prim.Native.Nat.{_+_, _≤_, min};
-ghost use Rattle.plan.specs.Accidents.{opens};
-ghost use Rattle.plan.specs.Claim.{joinedWidth, claimsFrom};
+ghost use Rattle.plan.specs.Claim.{claim, joinedWidth};
 ghost use Rattle.plan.specs.Header.{editionOf, headerBits};
 ghost use Rattle.plan.specs.Losses.{limitedTo};
 ghost use Rattle.plan.specs.Risk.{countWidth};
-ghost use Rattle.plan.specs.Sizes.{mostRisks, mostFileBits};
-ghost use Rattle.claims.specs.Claim.{RunReach, frontDollars, frontClaim};
+ghost use Rattle.plan.specs.Sizes.{largestClaim, mostRisks, mostFileBits};
+ghost use Rattle.claims.specs.Claim.{RunReach, frontDollars, claimIn};
 ghost use Rattle.claims.specs.Walks.{ClaimRoom, ClaimAdded, AccidentRoom, StartsWith, AccidentAdded, RunEnded, CountIs};
-ghost use Rattle.claims.specs.Walks.{ClaimsAre, RiskIs, NextRisk, RiskPassed, WalkIs, CountedIs};
+ghost use Rattle.claims.specs.Walks.{HeadIs, ClaimsAre, RiskIs, NextRisk, RiskPassed, WalkIs, CountedIs};
 use crate::claim::DOLLARS_WIDTH;
 use crate::claim::JOINING_EDITION;
 use crate::claim::LARGEST_CLAIM;
 use crate::claim::MOST_CLAIM_WIDTH;
 use crate::claim::dollars_ahead;
-use crate::claim::joined_ahead;
-use crate::claim::joined_width;
 use crate::claim::limited_ahead;
 use crate::claim::past_claims;
 use crate::claim::reach_of;
@@ -26,14 +23,26 @@ use bits::BitPlace;
 use bits::Taken;
 use group::GroupLosses;
 use group::MOST_RISKS;
+use words::extract;
+use words::highest;
 
 // Bits of a risk's number of claims.
 pub const COUNT_WIDTH: u32 = 6;
+
+// Bits of a count and of the bit behind it, and those of a word below both.
+const HEAD_WIDTH: u32 = 7;
+
+const BIT_LOW: u32 = 57;
 
 // Bits of two claims, in edition 1 and in edition 2.
 const SINGLE_PAIR_WIDTH: u32 = 40;
 
 const JOINED_PAIR_WIDTH: u32 = 42;
+
+// Bits of a word below the first claim on its front and below the second, in edition 2.
+const FIRST_LOW: u32 = 43;
+
+const SECOND_LOW: u32 = 22;
 
 // The largest sum of a risk's claims, and so of an accident.
 const MOST_RISK_LOSSES: u32 = 66060225;
@@ -50,6 +59,13 @@ struct AccidentSums {
     pub total: u32,
     pub start: u32,
     pub limited: u32,
+}
+
+// What a risk begins with: the number of its claims, whether its first claim opens an accident, and the place of that claim.
+struct RiskHead {
+    pub count: u32,
+    pub opened: bool,
+    pub next: BitPlace,
 }
 
 // A run of claims as the file has it: L and A, and the place after it.
@@ -127,16 +143,30 @@ pub fn count_at(file: &[u8], place: BitPlace) -> Taken
     place.take(file, COUNT_WIDTH)
 }
 
-// Whether the first of the claims from a place on, as many as `count`, opens an accident: its bit is 0, or there is no claim.
-fn opens_at(file: &[u8], place: BitPlace, count: u32, edition: u32) -> bool
-    requires { ⌜ RunReach (place .at) count × (edition ≡ editionOf (now file)) ⌝ }
-    ensures { λ r. ⌜ r ≡ opens (claimsFrom (now (file .entry)) (place .at) count) ⌝ }
+// The same, and whether the risk's first claim opens an accident: there is none, or it has no bit, or its bit, which lies behind the
+// count in the same word, is 0.
+fn head_at(file: &[u8], place: BitPlace, edition: u32) -> RiskHead
+    requires { ⌜ (place .at + countWidth ≤ mostFileBits) × (edition ≡ editionOf (now file)) ⌝ }
+    ensures { λ r. ⌜ HeadIs (now (file .entry)) (place .at) r ⌝ }
 {
-    if count == 0 {
-        return true;
+    let reach = place.at / 8 + 8;
+    let front = place.take_front(file, HEAD_WIDTH, reach);
+    let count = highest(front.bits, COUNT_WIDTH) as u32;
+    let at = place.at + COUNT_WIDTH as usize;
+    let next = BitPlace { at };
+    if edition != JOINING_EDITION {
+        return RiskHead {
+            count,
+            opened: true,
+            next,
+        };
     }
-    let bit = place.take(file, joined_width(edition));
-    bit.value == 0
+    let bit = extract(front.bits, BIT_LOW, 1);
+    RiskHead {
+        count,
+        opened: (count == 0) | (bit == 0),
+        next,
+    }
 }
 
 // ---- edition 1: each claim is its own accident
@@ -193,21 +223,32 @@ fn start_with(sums: AccidentSums, joined: u32) -> u32
     if joined == 0 { sums.total } else { sums.start }
 }
 
-// The sums with one claim more, the one on the front of a word; `most` is what the limit leaves of the largest accident. Where the
-// claim opens an accident, all that came since the last one began is that accident's sum; where it does not, nothing has ended.
-fn join_claim(sums: AccidentSums, word: u64, most: u32) -> AccidentSums
-    requires { ⌜ AccidentRoom sums most ⌝ }
-    ensures { λ r. ⌜ AccidentAdded sums (frontClaim word) most r ⌝ }
+// The sums with one claim more; `most` is what the limit leaves of the largest accident. Where the claim opens an accident, all that
+// came since the last one began is that accident's sum; where it does not, nothing has ended.
+fn join_claim(sums: AccidentSums, joined: u32, dollars: u32, most: u32) -> AccidentSums
+    requires { ⌜ AccidentRoom sums most × (dollars ≤ largestClaim) ⌝ }
+    ensures { λ r. ⌜ AccidentAdded sums (claim joined dollars) most r ⌝ }
 {
-    let start = start_with(sums, joined_ahead(word));
+    let start = start_with(sums, joined);
     let ended = start - sums.start;
     let limited = sums.limited + lesser(ended, most);
-    let total = sums.total + dollars_ahead(word << 1);
+    let total = sums.total + dollars;
     AccidentSums {
         total,
         start,
         limited,
     }
+}
+
+// The same of the claim whose fields are in a word: the bit above its `low` lowest bits and 20 more, and the dollars above the `low`
+// lowest.
+fn join_from(sums: AccidentSums, word: u64, low: u32, most: u32) -> AccidentSums
+    requires { ⌜ AccidentRoom sums most × (low ≤ 43) ⌝ }
+    ensures { λ r. ⌜ AccidentAdded sums (claimIn word low) most r ⌝ }
+{
+    let joined = extract(word, low + DOLLARS_WIDTH, 1) as u32;
+    let dollars = extract(word, low, DOLLARS_WIDTH) as u32;
+    join_claim(sums, joined, dollars, most)
 }
 
 // All claims of a risk by their sums: the last accident has ended too.
@@ -242,14 +283,14 @@ fn joined_claims(file: &[u8], place: BitPlace, count: u32, limit: u32) -> ClaimR
     let mut i: u32 = 0;
     while i < pairs {
         let pair = next.take_front(file, JOINED_PAIR_WIDTH, reach);
-        sums = join_claim(sums, pair.bits, most);
-        sums = join_claim(sums, pair.bits << MOST_CLAIM_WIDTH, most);
+        sums = join_from(sums, pair.bits, FIRST_LOW, most);
+        sums = join_from(sums, pair.bits, SECOND_LOW, most);
         next = pair.next;
         i += 1;
     }
     if count % 2 == 1 {
         let last = next.take_front(file, MOST_CLAIM_WIDTH, reach);
-        sums = join_claim(sums, last.bits, most);
+        sums = join_from(sums, last.bits, FIRST_LOW, most);
         return run_ended(sums, most, last.next);
     }
     run_ended(sums, most, next)
@@ -274,15 +315,14 @@ pub fn risk_at(file: &[u8], place: BitPlace, edition: u32, limit: u32) -> Risk
     requires { ⌜ (place .at + countWidth ≤ mostFileBits) × (edition ≡ editionOf (now file)) ⌝ }
     ensures { λ r. ⌜ RiskIs (now (file .entry)) (place .at) limit r ⌝ }
 {
-    let taken = count_at(file, place);
-    let first = taken.next;
-    let count = taken.value;
-    let opened = opens_at(file, first, count, edition);
+    let head = head_at(file, place, edition);
+    let first = head.next;
+    let count = head.count;
     let run = claims_at(file, first, count, edition, limit);
     let next = run.next;
     Risk {
         count,
-        opened,
+        opened: head.opened,
         total: run.total,
         limited: run.limited,
         next,
@@ -366,10 +406,11 @@ pub fn count_claims(file: &[u8], place: BitPlace, risks: u32, edition: u32) -> C
     let mut next = place;
     let mut i: u32 = 0;
     while i < risks {
-        let count = count_at(file, next);
-        claims += count.value;
-        opened = opened & opens_at(file, count.next, count.value, edition);
-        next = past_claims(count.next, count.value, edition);
+        let head = head_at(file, next, edition);
+        let count = head.count;
+        claims += count;
+        opened = opened & head.opened;
+        next = past_claims(head.next, count, edition);
         i += 1;
     }
     Counted {

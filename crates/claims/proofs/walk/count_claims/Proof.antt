@@ -26,40 +26,38 @@ loop-holds c = (omega arith, record { place = c .before .pre .1; claims-are = re
 abbrev entry : tie.In-loop Inv-loop μ-loop → tie.Start Inv-loop μ-loop
 entry c = c .before .before .before
 
-count-at-requires : tie.Need-count-at-requires Inv-loop μ-loop
-count-at-requires c κs = omega (arith, counting-place (c .before .loop .inv .1), c .loop-test .taken, entry c .pre .0)
+head-at-requires : tie.Need-head-at-requires Inv-loop μ-loop
+head-at-requires c κs =
+    let e = entry c in
+    (omega (arith, counting-place (c .before .loop .inv .1), c .loop-test .taken, e .pre .0), e .pre .2)
 
 add-claims : tie.Need-add-claims Inv-loop μ-loop
 add-claims c =
-    let t = c .before in
-    let i = t .before in
+    let i = c .before in
     let e = entry i in
     omega (
       arith,
       counting-most (i .before .loop .inv .1),
       i .loop-test .taken,
       e .pre .0,
-      t .count-at .ensures .is,
+      c .head-at .ensures .is,
       count-le (e .args .file .now) (i .before .loop .next .at),
     )
 
 -- the claims of a count begin where a run can
-run : (t : tie.After-count-at Inv-loop μ-loop) → RunReach (t .count-at .result .next .at) (t .count-at .result .value)
+run : (t : tie.After-head-at Inv-loop μ-loop) → RunReach (t .head-at .result .next .at) (t .head-at .result .count)
 run t =
     let i = t .before in
     let e = entry i in
     let p = i .before .loop .next .at in
-    let x = t .count-at .ensures in
+    let x = t .head-at .ensures in
     record {
       few = omega (arith, x .is, count-le (e .args .file .now) p);
       inside = omega (arith, x .next, first-claim p, counting-place (i .before .loop .inv .1), i .loop-test .taken, e .pre .0);
     }
 
-opens-at-requires : tie.Need-opens-at-requires Inv-loop μ-loop
-opens-at-requires c κs = let t = c .before in (run t, entry (t .before) .pre .2)
-
 past-claims-requires : tie.Need-past-claims-requires Inv-loop μ-loop
-past-claims-requires c κs = run (c .before .before)
+past-claims-requires c κs = run (c .before)
 
 add-i : tie.Need-add-i Inv-loop μ-loop
 add-i c = omega arith
@@ -69,11 +67,10 @@ loop-less c = omega arith
 
 loop-again : tie.Need-loop-again Inv-loop μ-loop
 loop-again c =
-    let o = c .before in
-    let t = o .before .before in
+    let t = c .before .before in
     let i = t .before in (
       omega arith,
-      counting-more (i .before .loop .inv .1) (t .count-at .ensures) (entry i .pre .2) (o .opens-at .ensures) (c .past-claims .ensures),
+      counting-more (i .before .loop .inv .1) (t .head-at .ensures) (entry i .pre .2) (c .past-claims .ensures),
     )
 
 returns : tie.Need-returns Inv-loop μ-loop
@@ -95,9 +92,8 @@ count-claims-spec =
     Inv-loop
     μ-loop
     loop-holds
-    count-at-requires
+    head-at-requires
     add-claims
-    opens-at-requires
     past-claims-requires
     add-i
     loop-less

@@ -16,11 +16,8 @@ later {r} {bit} {start} x h = by-bit bit refl
     by-bit zero z = omega (arith, x .opened z, h)
     by-bit (suc j) z = omega (arith, x .joined (omega (arith, z)))
 
-begun : (c : tie.After-start-with) → c .before .before .args .sums .start ≤ c .start-with .result
-begun c = later (c .start-with .ensures) (c .before .before .pre .begun)
-
-joined-ahead-requires : tie.Need-joined-ahead-requires
-joined-ahead-requires c κs = search needs
+begun : (c : tie.After-start-with) → c .before .args .sums .start ≤ c .start-with .result
+begun c = later (c .start-with .ensures) (c .before .pre .0 .begun)
 
 start-with-requires : tie.Need-start-with-requires
 start-with-requires c κs = search needs
@@ -34,39 +31,32 @@ lesser-requires c κs = search needs
 add-limited : tie.Need-add-limited
 add-limited c = search needs
 
-dollars-ahead-requires : tie.Need-dollars-ahead-requires
-dollars-ahead-requires c κs = search needs
-
 add-total : tie.Need-add-total
 add-total c = search needs
 
 returns : tie.Need-returns
 returns c =
-    let d = c .before in
-    let l = d .before .before in
+    let l = c .before .before in
     let s = l .before .before in
-    let e = s .before .before in
-    let j = s .before .joined-ahead .ensures in
+    let r = s .before .args .sums in
     let x = s .start-with .ensures in
     record {
-      total = ap (λ (y : ℕ). e .args .sums .total + y) (d .dollars-ahead .ensures);
-      start-opened = λ z. x .opened (j ∙ z);
+      total = refl;
+      start-opened = x .opened;
       limited-opened = λ z.
-          ap (λ (y : ℕ). e .args .sums .limited + y)
-          (l .lesser .ensures ∙ ap (λ (y : ℕ). min (y - e .args .sums .start) (e .args .most)) (x .opened (j ∙ z)));
-      start-joined = λ o. x .joined (omega (arith, j, o));
-      limited-joined = λ o. omega (arith, l .lesser .ensures, x .joined (omega (arith, j, o)));
+          ap (λ (y : ℕ). r .limited + y)
+          (l .lesser .ensures ∙ ap (λ (y : ℕ). min (y - r .start) (s .before .args .most)) (x .opened z));
+      start-joined = x .joined;
+      limited-joined = λ o. omega (arith, l .lesser .ensures, x .joined o);
     }
 
 pub join-claim-spec : {M : Type 1} → statement M
 join-claim-spec =
     tie.close
     (tie.spec
-    joined-ahead-requires
     start-with-requires
     sub-ended
     lesser-requires
     add-limited
-    dollars-ahead-requires
     add-total
     returns)

@@ -6,9 +6,11 @@ use Prim.Native.Nat.{ℕ, _+_, _-_, _*_, _/_, _≤_, _<_}
 use native.Mathlib.Omega.{arith}
 use borrow.Author.Needs.{needs}
 use lib.Dec.{lit≤}
-use Rattle.plan.specs.Sizes.{mostRiskLosses}
+use Rattle.plan.specs.Sizes.{mostClaims, mostRiskLosses}
 use Rattle.plan.specs.Claim.{pastClaims}
 use Rattle.plan.proofs.Claims.{past-claims-by}
+use Rattle.claims.specs.Walks.{AccidentRoom}
+use Rattle.claims.specs.declared.walk.AccidentSums.{AccidentSums}
 use Rattle.claims.proofs.Walking.{front-reach, most-le}
 use Rattle.claims.proofs.Joining.{Joining, joining-starts, accident-room, all-limited, joining-more, double-width, front-here}
 use Rattle.claims.proofs.Joining.{front-behind}
@@ -53,19 +55,24 @@ take-front-requires c κs =
     let within : 2 * l .i ≤ a .count = omega (arith, pair-within (a .count) (l .i) (c .loop-test .taken)) in
     front-reach (a .file .now) 42 (l .inv .1) within (lit≤ tt) (n .before .reach-of .ensures)
 
-join-claim-requires : tie.Need-join-claim-requires Inv-loop μ-loop
-join-claim-requires c κs =
+-- of some of the claims there is room for what ends and for a claim more
+room : (n : tie.After-limited-to Inv-loop μ-loop) {k : ℕ} {r : AccidentSums}
+    → let a = entry n .args in
+    Joining (a .file .now) (a .place .at) (a .limit) k r → k ≤ mostClaims → AccidentRoom r (n .limited-to .result)
+room n w h = accident-room w h (omega (arith, most-le (entry n .args .limit) mostRiskLosses (n .limited-to .ensures)))
+
+join-from-requires : tie.Need-join-from-requires Inv-loop μ-loop
+join-from-requires c κs =
     let i = c .before in
     let n = known (i .before) in
-    accident-room (i .before .loop .inv .2)
-    (omega (arith, pair-within (entry n .args .count) (i .before .loop .i) (i .loop-test .taken), entry n .pre .0 .few))
-    (omega (arith, most-le (entry n .args .limit) mostRiskLosses (n .limited-to .ensures)))
+    let few = pair-within (entry n .args .count) (i .before .loop .i) (i .loop-test .taken) in
+    (room n (i .before .loop .inv .2) (omega (arith, few, entry n .pre .0 .few)), lit≤ tt)
 
 -- the first of the pair is added
-first-joined : (c : tie.After-join-claim Inv-loop μ-loop)
+first-joined : (c : tie.After-join-from Inv-loop μ-loop)
     → let l = c .before .before .before in
     let a = entry (known l) .args in
-    Joining (a .file .now) (a .place .at) (a .limit) (2 * l .loop .i + 1) (c .join-claim .result)
+    Joining (a .file .now) (a .place .at) (a .limit) (2 * l .loop .i + 1) (c .join-from .result)
 first-joined c =
     let t = c .before in
     let l = t .before .before in
@@ -75,22 +82,14 @@ first-joined c =
     omega (arith, pair-within (e .args .count) (l .loop .i) (t .before .loop-test .taken), e .pre .0 .few) in
     joining-more (l .loop .inv .2) few (n .limited-to .ensures)
     (front-here (e .args .file .now) (e .pre .1) (e .args .place .at) (2 * l .loop .i) (l .loop .inv .1) (t .take-front .ensures .ahead) (lit≤ tt))
-    (c .join-claim .ensures)
+    (c .join-from .ensures)
 
-cast-join-claim : tie.Need-cast-join-claim Inv-loop μ-loop
-cast-join-claim c = search needs
-
-shl-join-claim : tie.Need-shl-join-claim Inv-loop μ-loop
-shl-join-claim c = search needs
-
-join-claim-requires-2 : tie.Need-join-claim-requires-2 Inv-loop μ-loop
-join-claim-requires-2 c κs =
-    let f = c .before in
-    let i = f .before .before in
+join-from-requires-2 : tie.Need-join-from-requires-2 Inv-loop μ-loop
+join-from-requires-2 c κs =
+    let i = c .before .before in
     let n = known (i .before) in
-    accident-room (first-joined f)
-    (omega (arith, pair-within (entry n .args .count) (i .before .loop .i) (i .loop-test .taken), entry n .pre .0 .few))
-    (omega (arith, most-le (entry n .args .limit) mostRiskLosses (n .limited-to .ensures)))
+    let few = pair-within (entry n .args .count) (i .before .loop .i) (i .loop-test .taken) in
+    (room n (first-joined c) (omega (arith, few, entry n .pre .0 .few)), lit≤ tt)
 
 add-i : tie.Need-add-i Inv-loop μ-loop
 add-i c = omega arith
@@ -101,7 +100,7 @@ loop-less c = omega arith
 loop-again : tie.Need-loop-again Inv-loop μ-loop
 loop-again c =
     let q = c .before in
-    let f = q .before .before in
+    let f = q .before in
     let t = f .before in
     let l = t .before .before in
     let n = known l in
@@ -121,8 +120,8 @@ loop-again c =
         past-claims-by (a .file .now) width (a .place .at) (2 * i),
         past-claims-by (a .file .now) width (a .place .at) (2 * (i + 1)),
       ),
-      subst (λ (k : ℕ). Joining (a .file .now) (a .place .at) (a .limit) k (q .join-claim2 .result)) two
-          (joining-more (first-joined f) few (n .limited-to .ensures) behind (q .join-claim2 .ensures)),
+      subst (λ (k : ℕ). Joining (a .file .now) (a .place .at) (a .limit) k (q .join-from2 .result)) two
+          (joining-more (first-joined f) few (n .limited-to .ensures) behind (q .join-from2 .ensures)),
     )
 
 -- ---- an odd claim behind the pairs
@@ -149,17 +148,16 @@ take-front-requires-2 c κs =
     let within : 2 * (a .count / 2) ≤ a .count = omega arith in
     front-reach (a .file .now) 21 (all-pairs (c .before) .0) within (lit≤ tt) (n .before .reach-of .ensures)
 
-join-claim-requires-3 : tie.Need-join-claim-requires-3 Inv-loop μ-loop
-join-claim-requires-3 c κs =
+join-from-requires-3 : tie.Need-join-from-requires-3 Inv-loop μ-loop
+join-from-requires-3 c κs =
     let o = c .before in
     let n = known (o .before .before) in
-    accident-room (all-pairs (o .before) .1) (omega (arith, o .if1 .taken, entry n .pre .0 .few))
-    (omega (arith, most-le (entry n .args .limit) mostRiskLosses (n .limited-to .ensures)))
+    (room n (all-pairs (o .before) .1) (omega (arith, o .if1 .taken, entry n .pre .0 .few)), lit≤ tt)
 
 -- with the odd claim all are summed
-all-odd : (d : tie.After-join-claim3 Inv-loop μ-loop)
+all-odd : (d : tie.After-join-from3 Inv-loop μ-loop)
     → let a = entry (known (d .before .before .before .before)) .args in
-    Joining (a .file .now) (a .place .at) (a .limit) (a .count) (d .join-claim3 .result)
+    Joining (a .file .now) (a .place .at) (a .limit) (a .count) (d .join-from3 .result)
 all-odd d =
     let t = d .before in
     let o = t .before in
@@ -168,10 +166,10 @@ all-odd d =
     let a = e .args in
     let p = all-pairs (o .before) in
     let odd : 2 * (a .count / 2) + 1 ≡ a .count = omega (arith, o .if1 .taken) in
-    subst (λ (k : ℕ). Joining (a .file .now) (a .place .at) (a .limit) k (d .join-claim3 .result)) odd
+    subst (λ (k : ℕ). Joining (a .file .now) (a .place .at) (a .limit) k (d .join-from3 .result)) odd
     (joining-more (p .1) (omega (arith, odd, e .pre .0 .few)) (n .limited-to .ensures)
     (front-here (a .file .now) (e .pre .1) (a .place .at) (2 * (a .count / 2)) (p .0) (t .take-front2 .ensures .ahead) (lit≤ tt))
-    (d .join-claim3 .ensures))
+    (d .join-from3 .ensures))
 
 -- without one they are before
 all-even : (c : tie.Else1 Inv-loop μ-loop)
@@ -191,7 +189,7 @@ all-even c =
 run-ended-requires : tie.Need-run-ended-requires Inv-loop μ-loop
 run-ended-requires c κs =
     let n = known (c .before .before .before .before) in
-    accident-room (all-odd c) (omega (arith, entry n .pre .0 .few)) (omega (arith, most-le (entry n .args .limit) mostRiskLosses (n .limited-to .ensures)))
+    room n (all-odd c) (omega (arith, entry n .pre .0 .few))
 
 returns : tie.Need-returns Inv-loop μ-loop
 returns c =
@@ -222,8 +220,7 @@ returns c =
 run-ended-requires-2 : tie.Need-run-ended-requires-2 Inv-loop μ-loop
 run-ended-requires-2 c κs =
     let n = known (c .before .before) in
-    accident-room (all-even c .1) (omega (arith, entry n .pre .0 .few))
-    (omega (arith, most-le (entry n .args .limit) mostRiskLosses (n .limited-to .ensures)))
+    room n (all-even c .1) (omega (arith, entry n .pre .0 .few))
 
 returns-2 : tie.Need-returns-2 Inv-loop μ-loop
 returns-2 c =
@@ -247,15 +244,13 @@ joined-claims-spec =
     limited-to-requires
     loop-holds
     take-front-requires
-    join-claim-requires
-    cast-join-claim
-    shl-join-claim
-    join-claim-requires-2
+    join-from-requires
+    join-from-requires-2
     add-i
     loop-less
     loop-again
     take-front-requires-2
-    join-claim-requires-3
+    join-from-requires-3
     run-ended-requires
     returns
     run-ended-requires-2
