@@ -14,7 +14,7 @@ ghost use Rattle.plan.specs.Risk.{countWidth};
 ghost use Rattle.plan.specs.Questions.{ask, knownEdition, headerFits, question15};
 ghost use Rattle.group.specs.Values.{headerIs};
 ghost use Rattle.putting.specs.Putting.{givenGroup};
-ghost use Rattle.writing.specs.Fitting.{OpensSays, OpenSays};
+ghost use Rattle.writing.specs.Fitting.{FitsAsBoth, OpensSays, OpenSays};
 use claims::claim::JOINING_EDITION;
 use claims::claim::dollars_fit;
 use claims::claim::joined_fits;
@@ -97,18 +97,25 @@ fn claims_fit(claims: &[u32]) -> bool
     fit
 }
 
-// Whether the bits of the claims fit their width in an edition: where that is no bits, each is 0. All are looked at, as the
-// dollars are.
+// The greater of two bytes: it fits where both do.
+fn greater(a: u8, b: u8) -> u8
+    ensures { λ r. ⌜ FitsAsBoth a b r ⌝ }
+{
+    if a < b { b } else { a }
+}
+
+// Whether the bits of the claims fit their width in an edition: where that is no bits, each is 0. The greatest is looked for in a
+// loop of bytes alone, which can compile to one over many at a time.
 fn joined_fit(edition: u32, joined: &[u8]) -> bool
     ensures { λ r. ⌜ r ≡ allFit (joinedWidth edition) (now (joined .entry)) ⌝ }
 {
-    let mut fit = true;
+    let mut most = 0;
     let mut i = 0;
     while i < joined.len() {
-        fit = fit & joined_fits(edition, joined[i] as u32);
+        most = greater(most, joined[i]);
         i += 1;
     }
-    fit
+    joined_fits(edition, most as u32)
 }
 
 // Question 15. Claims are looked at only where there are as many as the counts add to, and bits where there are as many as
