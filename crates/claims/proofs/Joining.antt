@@ -4,6 +4,7 @@
 use mathlib.Core.Path.{_≡_, refl, sym, ap, ap₂, _∙_}
 use mathlib.Core.List.{List}
 use Prim.Native.Nat.{ℕ, zero, suc, _+_, _-_, _*_, _/_, _%_, _^_, _≤_, _<_, min}
+use native.Mathlib.Nat.{mod-lt, zero-lt-suc}
 use native.Mathlib.Omega.{arith}
 use Rattle.plan.specs.Field.{field}
 use Rattle.plan.specs.Sizes.{largestClaim, mostClaims, mostRiskLosses}
@@ -17,7 +18,7 @@ use Rattle.plan.proofs.Losses.{last-joined, before-joined, claims-total-le}
 use Rattle.bits.specs.Take.{Ahead}
 use Rattle.bits.proofs.Fronts.{front-part}
 use Rattle.claims.specs.Claim.{claimIn}
-use Rattle.claims.specs.Walks.{AccidentRoom, AccidentAdded}
+use Rattle.claims.specs.Walks.{AccidentRoom, AccidentAdded, PairRoom, PairAdded}
 use Rattle.claims.specs.declared.walk.AccidentSums.{AccidentSums}
 
 -- of claims from `at` on, i are summed
@@ -46,6 +47,15 @@ module _ {s : List ℕ} {at limit i : ℕ} {r : AccidentSums} (w : Joining s at 
   -- of 63 claims there is room for what ends and for a claim more
   pub accident-room : {most : ℕ} → i ≤ mostClaims → most ≤ mostRiskLosses → AccidentRoom r most
   accident-room h b = record {
+    begun = omega (arith, w .last-is);
+    total = omega (arith, total-le);
+    limited = omega (arith, total-le, limited-le-total);
+    bound = b;
+  }
+
+  -- and for two
+  pub pair-room : {most : ℕ} → i ≤ mostClaims → most ≤ mostRiskLosses → PairRoom r most
+  pair-room h b = record {
     begun = omega (arith, w .last-is);
     total = omega (arith, total-le);
     limited = omega (arith, total-le, limited-le-total);
@@ -96,6 +106,37 @@ module _ {s : List ℕ} {at limit i : ℕ} {r : AccidentSums} (w : Joining s at 
 
     pub joining-more : Joining s at limit (i + 1) q
     joining-more = by-bit (joined c) refl
+
+-- with the first of two claims added there is room for the second
+pub room-after : {r q : AccidentSums} {c : Claim} {most : ℕ} → PairRoom r most → dollars c ≤ largestClaim → AccidentAdded r c most q
+    → AccidentRoom q most
+room-after {r} {q} {c} {most} p small a = by-bit (joined c) refl
+  where
+    by-bit : (j : ℕ) → joined c ≡ j → AccidentRoom q most
+    by-bit zero z = record {
+      begun = omega (arith, a .total, a .start-opened z);
+      total = omega (arith, a .total, small, p .total);
+      limited = omega (arith, a .limited-opened z, p .limited, p .bound);
+      bound = p .bound;
+    }
+    by-bit (suc j) z =
+        let one : 1 ≤ joined c = omega (arith, z) in
+        record {
+          begun = omega (arith, a .total, a .start-joined one, p .begun);
+          total = omega (arith, a .total, small, p .total);
+          limited = omega (arith, a .limited-joined one, p .limited);
+          bound = p .bound;
+        }
+
+-- the dollars in a word are those of a claim
+pub in-word-le : (word low : ℕ) → dollars (claimIn word low) ≤ largestClaim
+in-word-le word low = omega (arith, mod-lt (word / 2 ^ low) (zero-lt-suc 1048575))
+
+-- two claims more
+pub pair-more : {s : List ℕ} {at limit i most : ℕ} {r : AccidentSums} → Joining s at limit i r → i + 1 < mostClaims
+    → most ≡ limitedTo limit mostRiskLosses → {c d : Claim} → c ≡ claimAt s (pastClaims s at i) → d ≡ claimAt s (pastClaims s at (i + 1))
+    → {q : AccidentSums} → PairAdded r c d most q → Joining s at limit (i + 1 + 1) q
+pair-more w h m c d p = joining-more (joining-more w (omega arith) m c (p .first)) h m d (p .second)
 
 -- ---- claims on a word's front
 

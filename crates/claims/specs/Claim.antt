@@ -26,6 +26,18 @@ pub record ClaimTaken (s : List ℕ) (at : ℕ) (r : TakenClaim) : Type 0 where
 abbrev pub frontDollars : ℕ → ℕ
 frontDollars w = w / 2 ^ (64 - dollarsWidth)
 
+-- the bits of a word below the first of two claims with bits on its front, and below the second
+abbrev pub firstLow : ℕ
+firstLow = 43
+
+abbrev pub secondLow : ℕ
+secondLow = 22
+
 -- a claim with its bit in a word, above its `low` lowest bits: the dollars, and the bit above them
 abbrev pub claimIn : ℕ → ℕ → Claim
 claimIn w low = claim (w / 2 ^ (low + dollarsWidth) % 2 ^ 1) (w / 2 ^ low % 2 ^ dollarsWidth)
+
+-- both claims of a pair open an accident
+pub record PairOpens (w : ℕ) : Type 0 where
+  pub first : joined (claimIn w firstLow) ≡ 0
+  pub second : joined (claimIn w secondLow) ≡ 0

@@ -1,7 +1,7 @@
 -- What the walk over a file's claims gives: of a claim, of a run of claims, of a risk, of the risks so far, and of all of them.
 use mathlib.Core.Path.{_≡_}
 use mathlib.Core.List.{List, map}
-use Prim.Native.Nat.{ℕ, _+_, _-_, _^_, _≤_, _<_, min}
+use Prim.Native.Nat.{ℕ, _+_, _-_, _*_, _^_, _≤_, _<_, min}
 use Rattle.plan.specs.Arithmetic.{sum}
 use Rattle.plan.specs.Sizes.{largestClaim, mostRiskLosses, mostRisks}
 use Rattle.plan.specs.Header.{headerBits}
@@ -53,6 +53,19 @@ pub record AccidentAdded (r : AccidentSums) (c : Claim) (most : ℕ) (q : Accide
   pub limited-opened : joined c ≡ 0 → q .limited ≡ r .limited + min (r .total - r .start) most
   pub start-joined : 1 ≤ joined c → q .start ≡ r .start
   pub limited-joined : 1 ≤ joined c → q .limited ≡ r .limited
+
+-- room for two claims, one after the other
+pub record PairRoom (r : AccidentSums) (most : ℕ) : Type 0 where
+  pub begun : r .start ≤ r .total
+  pub total : r .total + 2 * largestClaim < 2 ^ 32
+  pub limited : r .limited + 2 * mostRiskLosses < 2 ^ 32
+  pub bound : most ≤ mostRiskLosses
+
+-- two claims added, one after the other
+pub record PairAdded (r : AccidentSums) (c d : Claim) (most : ℕ) (q : AccidentSums) : Type 0 where
+  pub between : AccidentSums
+  pub first : AccidentAdded r c most between
+  pub second : AccidentAdded between d most q
 
 -- no claim follows: the last accident ends, and `most` leaves its part of it
 pub record RunEnded (r : AccidentSums) (most p : ℕ) (q : ClaimRun) : Type 0 where

@@ -7,8 +7,10 @@ ghost use Rattle.plan.specs.Field.{fits};
 ghost use Rattle.plan.specs.Header.{editionOf};
 ghost use Rattle.plan.specs.Claim.{claim, joinedWidth, dollarsWidth, claimWidth, slotsOfClaim};
 ghost use Rattle.bits.specs.Runs.{Space, Wrote};
+ghost use Rattle.bits.specs.Take.{Took};
 ghost use Rattle.claims.specs.Claim.{ClaimReach, ClaimTaken, RunReach, frontDollars};
 use bits::BitPlace;
+use bits::Taken;
 use words::extract;
 use words::highest;
 
@@ -62,12 +64,24 @@ pub fn reach_of(place: BitPlace, count: u32) -> usize
     (place.at + MOST_CLAIM_WIDTH as usize * count as usize) / 8 + 8
 }
 
-// The claim at a place, and the place after it; its word ends at byte `reach` or before. Its fields are taken as one.
+// A claim's fields taken as one; their word ends at byte `reach` or before. Each width is a number of its own here, so that a loop over
+// claims can compile to one for each edition.
+fn fields_at(file: &[u8], place: BitPlace, edition: u32, reach: usize) -> Taken
+    requires { ⌜ ClaimReach (place .at) 0 reach ⌝ }
+    ensures { λ r. ⌜ Took (now (file .entry)) (place .at) (claimWidth edition) (r .value) (r .next .at) ⌝ }
+{
+    if edition == JOINING_EDITION {
+        return place.take_within(file, MOST_CLAIM_WIDTH, reach);
+    }
+    place.take_within(file, DOLLARS_WIDTH, reach)
+}
+
+// The claim at a place, and the place after it; its word ends at byte `reach` or before.
 pub fn claim_at(file: &[u8], place: BitPlace, edition: u32, reach: usize) -> TakenClaim
     requires { ⌜ ClaimReach (place .at) 0 reach × (edition ≡ editionOf (now file)) ⌝ }
     ensures { λ r. ⌜ ClaimTaken (now (file .entry)) (place .at) r ⌝ }
 {
-    let taken = place.take_within(file, claim_width(edition), reach);
+    let taken = fields_at(file, place, edition, reach);
     let bits = taken.value as u64;
     let joined = (bits >> DOLLARS_WIDTH) as u32;
     let dollars = extract(bits, 0, DOLLARS_WIDTH) as u32;

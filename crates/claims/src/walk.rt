@@ -8,9 +8,9 @@ ghost use Rattle.plan.specs.Header.{editionOf, headerBits};
 ghost use Rattle.plan.specs.Losses.{limitedTo};
 ghost use Rattle.plan.specs.Risk.{countWidth};
 ghost use Rattle.plan.specs.Sizes.{largestClaim, mostRisks, mostFileBits};
-ghost use Rattle.claims.specs.Claim.{RunReach, frontDollars, claimIn};
-ghost use Rattle.claims.specs.Walks.{ClaimRoom, ClaimAdded, AccidentRoom, StartsWith, AccidentAdded, RunEnded, CountIs};
-ghost use Rattle.claims.specs.Walks.{HeadIs, ClaimsAre, RiskIs, NextRisk, RiskPassed, WalkIs, CountedIs};
+ghost use Rattle.claims.specs.Claim.{RunReach, frontDollars, firstLow, secondLow, claimIn, PairOpens};
+ghost use Rattle.claims.specs.Walks.{ClaimRoom, ClaimAdded, AccidentRoom, StartsWith, AccidentAdded, PairRoom, PairAdded};
+ghost use Rattle.claims.specs.Walks.{RunEnded, CountIs, HeadIs, ClaimsAre, RiskIs, NextRisk, RiskPassed, WalkIs, CountedIs};
 use crate::claim::DOLLARS_WIDTH;
 use crate::claim::JOINING_EDITION;
 use crate::claim::LARGEST_CLAIM;
@@ -251,6 +251,39 @@ fn join_from(sums: AccidentSums, word: u64, low: u32, most: u32) -> AccidentSums
     join_claim(sums, joined, dollars, most)
 }
 
+// The same of both claims of a pair, where either opens an accident: the one before them ends, and the first of them.
+fn open_pair(sums: AccidentSums, word: u64, most: u32) -> AccidentSums
+    requires { ⌜ PairRoom sums most × PairOpens word ⌝ }
+    ensures { λ r. ⌜ PairAdded sums (claimIn word firstLow) (claimIn word secondLow) most r ⌝ }
+{
+    let first = extract(word, FIRST_LOW, DOLLARS_WIDTH) as u32;
+    let second = extract(word, SECOND_LOW, DOLLARS_WIDTH) as u32;
+    let ended = sums.total - sums.start;
+    let before = sums.limited + lesser(ended, most);
+    let limited = before + lesser(first, most);
+    let start = sums.total + first;
+    let total = start + second;
+    AccidentSums {
+        total,
+        start,
+        limited,
+    }
+}
+
+// The same of any pair. Most claims are accidents of their own, and a pair of such is added with less.
+fn join_pair(sums: AccidentSums, word: u64, most: u32) -> AccidentSums
+    requires { ⌜ PairRoom sums most ⌝ }
+    ensures { λ r. ⌜ PairAdded sums (claimIn word firstLow) (claimIn word secondLow) most r ⌝ }
+{
+    let first = extract(word, FIRST_LOW + DOLLARS_WIDTH, 1);
+    let second = extract(word, SECOND_LOW + DOLLARS_WIDTH, 1);
+    if (first == 0) & (second == 0) {
+        return open_pair(sums, word, most);
+    }
+    let one = join_from(sums, word, FIRST_LOW, most);
+    join_from(one, word, SECOND_LOW, most)
+}
+
 // All claims of a risk by their sums: the last accident has ended too.
 fn run_ended(sums: AccidentSums, most: u32, next: BitPlace) -> ClaimRun
     requires { ⌜ AccidentRoom sums most ⌝ }
@@ -283,8 +316,7 @@ fn joined_claims(file: &[u8], place: BitPlace, count: u32, limit: u32) -> ClaimR
     let mut i: u32 = 0;
     while i < pairs {
         let pair = next.take_front(file, JOINED_PAIR_WIDTH, reach);
-        sums = join_from(sums, pair.bits, FIRST_LOW, most);
-        sums = join_from(sums, pair.bits, SECOND_LOW, most);
+        sums = join_pair(sums, pair.bits, most);
         next = pair.next;
         i += 1;
     }

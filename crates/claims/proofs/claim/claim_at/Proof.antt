@@ -7,23 +7,12 @@ use borrow.Author.Needs.{needs}
 use Rattle.plan.specs.Field.{field}
 use Rattle.plan.specs.Header.{editionOf}
 use Rattle.plan.specs.Claim.{claimWidth, dollarsWidth}
-use Rattle.plan.proofs.Claims.{width-le, past-claim, joined-of-both, dollars-of-both}
+use Rattle.plan.proofs.Claims.{past-claim, joined-of-both, dollars-of-both}
 use Rattle.claims.proofs.claim.claim_at.Statement.{statement}
 use Rattle.claims.proofs.claim.claim_at.Tie as tie
 
-claim-width-requires : tie.Need-claim-width-requires
-claim-width-requires c κs = search needs
-
-take-within-requires : tie.Need-take-within-requires
-take-within-requires c κs =
-    let e = c .before .before in
-    let w = width-le (e .args .edition) in (
-      record {
-        narrow = omega (arith, c .claim-width .ensures, w);
-        next = omega (arith, c .claim-width .ensures, w, e .pre .0 .inside);
-      },
-      omega (arith, e .pre .0 .ends),
-    )
+fields-at-requires : tie.Need-fields-at-requires
+fields-at-requires c κs = c .before .pre .0
 
 cast-bits : tie.Need-cast-bits
 cast-bits c = search needs
@@ -46,28 +35,25 @@ cast-dollars c = search needs
 returns : tie.Need-returns
 returns c =
     let t = c .before .before .before in
-    let e = t .before .before .before in
+    let e = t .before .before in
     let s = e .args .file .now in
     let at = e .args .place .at in
-    let width : t .before .claim-width .result ≡ claimWidth (editionOf s) =
-    t .before .claim-width .ensures ∙ ap claimWidth (e .pre .1) in
-    let both : t .take-within .result .value ≡ field s at (claimWidth (editionOf s)) =
-    t .take-within .ensures .is ∙ ap (field s at) width in
+    let width : claimWidth (e .args .edition) ≡ claimWidth (editionOf s) = ap claimWidth (e .pre .1) in
+    let both : t .fields-at .result .value ≡ field s at (claimWidth (editionOf s)) = t .fields-at .ensures .is ∙ ap (field s at) width in
     record {
       bit = ap (λ (x : ℕ). x / 2 ^ dollarsWidth) both ∙ joined-of-both s at;
       is =
           c .before .extract .ensures
-          ∙ ap (λ (x : ℕ). x % 2 ^ dollarsWidth) (div-one (t .take-within .result .value) ∙ both)
+          ∙ ap (λ (x : ℕ). x % 2 ^ dollarsWidth) (div-one (t .fields-at .result .value) ∙ both)
           ∙ dollars-of-both s at;
-      next = omega (arith, t .take-within .ensures .place, width, past-claim s at);
+      next = omega (arith, t .fields-at .ensures .place, width, past-claim s at);
     }
 
 pub claim-at-spec : {M : Type 1} → statement M
 claim-at-spec =
     tie.close
     (tie.spec
-    claim-width-requires
-    take-within-requires
+    fields-at-requires
     cast-bits
     cast-joined
     shr-joined

@@ -12,8 +12,8 @@ use Rattle.plan.proofs.Claims.{past-claims-by}
 use Rattle.claims.specs.Walks.{AccidentRoom}
 use Rattle.claims.specs.declared.walk.AccidentSums.{AccidentSums}
 use Rattle.claims.proofs.Walking.{front-reach, most-le}
-use Rattle.claims.proofs.Joining.{Joining, joining-starts, accident-room, all-limited, joining-more, double-width, front-here}
-use Rattle.claims.proofs.Joining.{front-behind}
+use Rattle.claims.proofs.Joining.{Joining, joining-starts, accident-room, pair-room, all-limited, joining-more, pair-more}
+use Rattle.claims.proofs.Joining.{double-width, front-here, front-behind}
 use Rattle.claims.proofs.walk.joined_claims.Statement.{statement}
 use Rattle.claims.proofs.walk.joined_claims.Tie as tie
 
@@ -61,35 +61,13 @@ room : (n : tie.After-limited-to Inv-loop μ-loop) {k : ℕ} {r : AccidentSums}
     Joining (a .file .now) (a .place .at) (a .limit) k r → k ≤ mostClaims → AccidentRoom r (n .limited-to .result)
 room n w h = accident-room w h (omega (arith, most-le (entry n .args .limit) mostRiskLosses (n .limited-to .ensures)))
 
-join-from-requires : tie.Need-join-from-requires Inv-loop μ-loop
-join-from-requires c κs =
+join-pair-requires : tie.Need-join-pair-requires Inv-loop μ-loop
+join-pair-requires c κs =
     let i = c .before in
     let n = known (i .before) in
     let few = pair-within (entry n .args .count) (i .before .loop .i) (i .loop-test .taken) in
-    (room n (i .before .loop .inv .2) (omega (arith, few, entry n .pre .0 .few)), lit≤ tt)
-
--- the first of the pair is added
-first-joined : (c : tie.After-join-from Inv-loop μ-loop)
-    → let l = c .before .before .before in
-    let a = entry (known l) .args in
-    Joining (a .file .now) (a .place .at) (a .limit) (2 * l .loop .i + 1) (c .join-from .result)
-first-joined c =
-    let t = c .before in
-    let l = t .before .before in
-    let n = known l in
-    let e = entry n in
-    let few : 2 * l .loop .i < 63 =
-    omega (arith, pair-within (e .args .count) (l .loop .i) (t .before .loop-test .taken), e .pre .0 .few) in
-    joining-more (l .loop .inv .2) few (n .limited-to .ensures)
-    (front-here (e .args .file .now) (e .pre .1) (e .args .place .at) (2 * l .loop .i) (l .loop .inv .1) (t .take-front .ensures .ahead) (lit≤ tt))
-    (c .join-from .ensures)
-
-join-from-requires-2 : tie.Need-join-from-requires-2 Inv-loop μ-loop
-join-from-requires-2 c κs =
-    let i = c .before .before in
-    let n = known (i .before) in
-    let few = pair-within (entry n .args .count) (i .before .loop .i) (i .loop-test .taken) in
-    (room n (first-joined c) (omega (arith, few, entry n .pre .0 .few)), lit≤ tt)
+    pair-room (i .before .loop .inv .2) (omega (arith, few, entry n .pre .0 .few))
+    (omega (arith, most-le (entry n .args .limit) mostRiskLosses (n .limited-to .ensures)))
 
 add-i : tie.Need-add-i Inv-loop μ-loop
 add-i c = omega arith
@@ -100,8 +78,7 @@ loop-less c = omega arith
 loop-again : tie.Need-loop-again Inv-loop μ-loop
 loop-again c =
     let q = c .before in
-    let f = q .before in
-    let t = f .before in
+    let t = q .before in
     let l = t .before .before in
     let n = known l in
     let e = entry n in
@@ -111,6 +88,7 @@ loop-again c =
     let two : 2 * i + 1 + 1 ≡ 2 * (i + 1) = omega arith in
     let few : 2 * i + 1 < 63 = omega (arith, pair-within (a .count) i (t .before .loop-test .taken), e .pre .0 .few) in
     let width = sym (double-width (a .file .now) (e .pre .1)) in
+    let here = front-here (a .file .now) (e .pre .1) (a .place .at) (2 * i) (l .loop .inv .1) (x .ahead) (lit≤ tt) in
     let behind = front-behind (a .file .now) (e .pre .1) (a .place .at) (2 * i) (l .loop .inv .1) (x .ahead) (lit≤ tt) in (
       omega arith,
       omega (
@@ -120,8 +98,8 @@ loop-again c =
         past-claims-by (a .file .now) width (a .place .at) (2 * i),
         past-claims-by (a .file .now) width (a .place .at) (2 * (i + 1)),
       ),
-      subst (λ (k : ℕ). Joining (a .file .now) (a .place .at) (a .limit) k (q .join-from2 .result)) two
-          (joining-more (first-joined f) few (n .limited-to .ensures) behind (q .join-from2 .ensures)),
+      subst (λ (k : ℕ). Joining (a .file .now) (a .place .at) (a .limit) k (q .join-pair .result)) two
+          (pair-more (l .loop .inv .2) few (n .limited-to .ensures) here behind (q .join-pair .ensures)),
     )
 
 -- ---- an odd claim behind the pairs
@@ -148,16 +126,16 @@ take-front-requires-2 c κs =
     let within : 2 * (a .count / 2) ≤ a .count = omega arith in
     front-reach (a .file .now) 21 (all-pairs (c .before) .0) within (lit≤ tt) (n .before .reach-of .ensures)
 
-join-from-requires-3 : tie.Need-join-from-requires-3 Inv-loop μ-loop
-join-from-requires-3 c κs =
+join-from-requires : tie.Need-join-from-requires Inv-loop μ-loop
+join-from-requires c κs =
     let o = c .before in
     let n = known (o .before .before) in
     (room n (all-pairs (o .before) .1) (omega (arith, o .if1 .taken, entry n .pre .0 .few)), lit≤ tt)
 
 -- with the odd claim all are summed
-all-odd : (d : tie.After-join-from3 Inv-loop μ-loop)
+all-odd : (d : tie.After-join-from Inv-loop μ-loop)
     → let a = entry (known (d .before .before .before .before)) .args in
-    Joining (a .file .now) (a .place .at) (a .limit) (a .count) (d .join-from3 .result)
+    Joining (a .file .now) (a .place .at) (a .limit) (a .count) (d .join-from .result)
 all-odd d =
     let t = d .before in
     let o = t .before in
@@ -166,10 +144,10 @@ all-odd d =
     let a = e .args in
     let p = all-pairs (o .before) in
     let odd : 2 * (a .count / 2) + 1 ≡ a .count = omega (arith, o .if1 .taken) in
-    subst (λ (k : ℕ). Joining (a .file .now) (a .place .at) (a .limit) k (d .join-from3 .result)) odd
+    subst (λ (k : ℕ). Joining (a .file .now) (a .place .at) (a .limit) k (d .join-from .result)) odd
     (joining-more (p .1) (omega (arith, odd, e .pre .0 .few)) (n .limited-to .ensures)
     (front-here (a .file .now) (e .pre .1) (a .place .at) (2 * (a .count / 2)) (p .0) (t .take-front2 .ensures .ahead) (lit≤ tt))
-    (d .join-from3 .ensures))
+    (d .join-from .ensures))
 
 -- without one they are before
 all-even : (c : tie.Else1 Inv-loop μ-loop)
@@ -244,13 +222,12 @@ joined-claims-spec =
     limited-to-requires
     loop-holds
     take-front-requires
-    join-from-requires
-    join-from-requires-2
+    join-pair-requires
     add-i
     loop-less
     loop-again
     take-front-requires-2
-    join-from-requires-3
+    join-from-requires
     run-ended-requires
     returns
     run-ended-requires-2
