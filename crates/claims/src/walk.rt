@@ -44,6 +44,9 @@ const FIRST_LOW: u32 = 43;
 
 const SECOND_LOW: u32 = 22;
 
+// The bits of both claims of a pair in a word: 2^63 + 2^42.
+const PAIR_BITS: u64 = 9223376434901286912;
+
 // The largest sum of a risk's claims, and so of an accident.
 const MOST_RISK_LOSSES: u32 = 66060225;
 
@@ -275,9 +278,7 @@ fn join_pair(sums: AccidentSums, word: u64, most: u32) -> AccidentSums
     requires { ⌜ PairRoom sums most ⌝ }
     ensures { λ r. ⌜ PairAdded sums (claimIn word firstLow) (claimIn word secondLow) most r ⌝ }
 {
-    let first = extract(word, FIRST_LOW + DOLLARS_WIDTH, 1);
-    let second = extract(word, SECOND_LOW + DOLLARS_WIDTH, 1);
-    if (first == 0) & (second == 0) {
+    if word & PAIR_BITS == 0 {
         return open_pair(sums, word, most);
     }
     let one = join_from(sums, word, FIRST_LOW, most);

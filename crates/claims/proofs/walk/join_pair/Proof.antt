@@ -1,38 +1,30 @@
 -- Where neither has its bit set both open an accident; else each is added as it is. Assumes nothing.
-use mathlib.Core.Path.{_≡_, sym, _∙_}
+use mathlib.Core.Path.{_≡_, refl, ap, _∙_}
+use Prim.Native.Nat.{ℕ, _/_, _%_, _^_}
+use native.Mathlib.Nat.{zero-div}
 use native.Mathlib.Omega.{arith}
 use borrow.Author.Needs.{needs}
-use borrow.Author.Tests.{eqb-true}
+use lib.Bits.{bitAnd, and-shr, and-mod, and-mask}
 use lib.Dec.{lit≤}
-use Rattle.plan.proofs.Tests.{both}
 use Rattle.claims.proofs.Joining.{room-after, in-word-le}
 use Rattle.claims.proofs.walk.join_pair.Statement.{statement}
 use Rattle.claims.proofs.walk.join_pair.Tie as tie
 
-add-extract : tie.Need-add-extract
-add-extract c = search needs
-
-extract-requires : tie.Need-extract-requires
-extract-requires c κs = search needs
-
-add-extract-2 : tie.Need-add-extract-2
-add-extract-2 c = search needs
-
-extract-requires-2 : tie.Need-extract-requires-2
-extract-requires-2 c κs = search needs
+-- a bit of a word that has none of a mask's bits is 0 where the mask's is 1
+clear : (w mask k : ℕ) → bitAnd w mask ≡ 0 → mask / 2 ^ k % 2 ^ 1 ≡ 1 → w / 2 ^ k % 2 ^ 1 ≡ 0
+clear w mask k e m =
+    let x : ℕ = w / 2 ^ k % 2 ^ 1 in
+    let same : bitAnd w mask / 2 ^ k % 2 ^ 1 ≡ bitAnd x 1 =
+    ap (λ (y : ℕ). y % 2 ^ 1) (and-shr w mask k) ∙ and-mod (w / 2 ^ k) (mask / 2 ^ k) 1 ∙ ap (bitAnd x) m in
+    let one : bitAnd x 1 ≡ x % 2 ^ 1 = and-mask x 1 in
+    let none : bitAnd w mask / 2 ^ k % 2 ^ 1 ≡ 0 = ap (λ (y : ℕ). y / 2 ^ k % 2 ^ 1) e ∙ ap (λ (y : ℕ). y % 2 ^ 1) (zero-div (2 ^ k)) in
+    omega (arith, same, one, none)
 
 open-pair-requires : tie.Need-open-pair-requires
 open-pair-requires c κs =
-    let two = c .before in
-    let one = two .before in
-    let e = one .before in
-    let none = both _ _ (c .if1 .taken) in (
-      e .pre,
-      record {
-        first = sym (one .extract .ensures) ∙ eqb-true _ _ (none .0);
-        second = sym (two .extract2 .ensures) ∙ eqb-true _ _ (none .1);
-      },
-    )
+    let e = c .before in
+    let w = e .args .word in
+    (e .pre, record { first = clear w 9223376434901286912 63 (c .if1 .taken) refl; second = clear w 9223376434901286912 42 (c .if1 .taken) refl })
 
 returns : tie.Need-returns
 returns c = search needs
@@ -42,7 +34,7 @@ join-from-requires c κs = search needs
 
 join-from-requires-2 : tie.Need-join-from-requires-2
 join-from-requires-2 c κs =
-    let e = c .before .before .before .before in
+    let e = c .before .before in
     (room-after (e .pre) (in-word-le (e .args .word) 43) (c .join-from .ensures), lit≤ tt)
 
 returns-2 : tie.Need-returns-2
@@ -52,10 +44,6 @@ pub join-pair-spec : {M : Type 1} → statement M
 join-pair-spec =
     tie.close
     (tie.spec
-    add-extract
-    extract-requires
-    add-extract-2
-    extract-requires-2
     open-pair-requires
     returns
     join-from-requires
