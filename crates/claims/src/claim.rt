@@ -1,12 +1,11 @@
-// One claim as it lies in a file of either edition: taken at a place or from a word's front, put, and whether it fits; and where a
-// run of claims ends.
+// One claim as it lies in a file of either edition: taken at a place or from a word's front, and whether it fits; and where a run of
+// claims ends. How claims are put is the crate `pairs`.
 ghost use mathlib.Core.Path.{_≡_};
 ghost use Prim.Native.Nat.{_+_, _*_, _/_, _^_, _≤_, min};
 ghost use Rattle.plan.specs.Sizes.{largestClaim};
 ghost use Rattle.plan.specs.Field.{fits};
 ghost use Rattle.plan.specs.Header.{editionOf};
-ghost use Rattle.plan.specs.Claim.{claim, joinedWidth, dollarsWidth, claimWidth, slotsOfClaim};
-ghost use Rattle.bits.specs.Runs.{Space, Wrote};
+ghost use Rattle.plan.specs.Claim.{joinedWidth, dollarsWidth, claimWidth};
 ghost use Rattle.bits.specs.Take.{Took};
 ghost use Rattle.claims.specs.Claim.{ClaimReach, ClaimTaken, RunReach, frontDollars};
 use bits::BitPlace;
@@ -14,7 +13,9 @@ use bits::Taken;
 use words::extract;
 use words::highest;
 
-// The edition whose claims have a bit before their dollars.
+// The edition whose claims are their dollars alone, and the one whose claims have a bit before them.
+pub const SINGLE_EDITION: u32 = 1;
+
 pub const JOINING_EDITION: u32 = 2;
 
 // Bits of a claim's dollars, and the most of a claim.
@@ -111,22 +112,6 @@ pub fn limited_ahead(word: u64, most: u32) -> u32
     } else {
         most
     }
-}
-
-// Puts a claim, its bit and then its dollars, and gives the place after it.
-pub fn put_claim(
-    out: &mut [u8],
-    place: BitPlace,
-    edition: u32,
-    joined: u32,
-    dollars: u32,
-) -> BitPlace
-    requires { ⌜ Space (now out) (place .at) (slotsOfClaim edition (claim joined dollars)) ⌝ }
-    ensures { λ r. ⌜ Wrote (now (out .entry)) (place .at) (slotsOfClaim edition (claim joined dollars))
-        (now (out .exit)) (r .at) ⌝ }
-{
-    let after = place.put(out, joined_width(edition), joined);
-    after.put(out, DOLLARS_WIDTH, dollars)
 }
 
 // Whether a claim's dollars fit their field.

@@ -5,6 +5,8 @@ ghost use Rattle.plan.specs.Header.{headerBits};
 ghost use Rattle.group.specs.Values.{headerIs, verdictIs};
 ghost use Rattle.groupfile.specs.Header.{between, tax-place, FirstFieldsAre, LastFieldsAre, FileHeaderIs};
 use bits::BitPlace;
+use claims::claim::JOINING_EDITION;
+use claims::claim::SINGLE_EDITION;
 use group::Header;
 use group::MOST_MARK;
 use group::Verdict;
@@ -139,7 +141,7 @@ fn in_range(low: u32, x: u32, high: u32) -> bool
 pub fn known_edition(edition: u32) -> bool
     ensures { λ r. ⌜ r ≡ knownEdition edition ⌝ }
 {
-    edition == 1 || edition == 2
+    edition == SINGLE_EDITION || edition == JOINING_EDITION
 }
 
 // Questions 3 to 6, 18 and 7 of header values and the number of risks.

@@ -1,4 +1,4 @@
-// What is asked of given values: question 2 of the edition; question 15, whether n, counts, claims, bits and header values fit
+// What is asked of given values: question 15, whether n, counts, claims, bits and header values fit
 // their widths, the counts add to the number of claims, and there are as many bits; and question 19, whether each risk's first
 // claim has the bit 0.
 ghost use mathlib.Core.Path.{_≡_};
@@ -11,11 +11,10 @@ ghost use Rattle.plan.specs.Sizes.{mostRisks};
 ghost use Rattle.plan.specs.Field.{fits, allFit};
 ghost use Rattle.plan.specs.Claim.{joinedWidth, dollarsWidth};
 ghost use Rattle.plan.specs.Risk.{countWidth};
-ghost use Rattle.plan.specs.Questions.{ask, knownEdition, headerFits, question15};
+ghost use Rattle.plan.specs.Questions.{ask, headerFits, question15};
 ghost use Rattle.group.specs.Values.{headerIs};
 ghost use Rattle.putting.specs.Putting.{givenGroup};
 ghost use Rattle.writing.specs.Fitting.{FitsAsBoth, OpensSays, OpenSays};
-use claims::claim::JOINING_EDITION;
 use claims::claim::dollars_fit;
 use claims::claim::joined_fits;
 use group::Header;
@@ -28,18 +27,6 @@ use groupfile::header::MARK_KIND_WIDTH;
 use groupfile::header::MARK_WIDTH;
 use groupfile::header::STANDARD_PREMIUM_WIDTH;
 use groupfile::header::TAX_WIDTH;
-
-// The edition whose claims have no bit before their dollars.
-const FIRST_EDITION: u32 = 1;
-
-// ---- question 2
-
-// Whether a file can have this edition.
-pub(crate) fn edition_known(edition: u32) -> bool
-    ensures { λ r. ⌜ r ≡ knownEdition edition ⌝ }
-{
-    (edition == FIRST_EDITION) | (edition == JOINING_EDITION)
-}
 
 // ---- question 15
 

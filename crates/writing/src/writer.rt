@@ -7,7 +7,6 @@ ghost use Rattle.plan.specs.Header.{headerBits};
 ghost use Rattle.plan.specs.Claim.{claimWidth};
 ghost use Rattle.plan.specs.Risk.{countWidth};
 ghost use Rattle.writing.specs.Writer.{givenGroup, WriteSays};
-use crate::fitting::edition_known;
 use crate::fitting::risks_open;
 use crate::fitting::values_fit;
 use claims::claim::claim_width;
@@ -15,6 +14,7 @@ use claims::walk::COUNT_WIDTH;
 use group::Header;
 use group::Verdict;
 use groupfile::header::header_verdict;
+use groupfile::header::known_edition;
 use groupfile::opening::HEADER_BYTES;
 use putting::put_file;
 
@@ -47,7 +47,7 @@ pub fn write(
     ensures { λ r. ⌜ WriteSays (givenGroup edition header (now (counts .entry)) (now (claims .entry)) (now (joined .entry)))
         (now (out .entry)) r (now (out .exit)) ⌝ }
 {
-    if !edition_known(edition) {
+    if !known_edition(edition) {
         return Written::Refused(2);
     }
     let verdict = header_verdict(header, counts.len());

@@ -107,12 +107,12 @@ module _ (s : tie.Start) where
 -- ---- question 2
 
 -- the function's entry, here and from each later place
-abbrev entry : tie.After-edition-known → tie.Start
+abbrev entry : tie.After-known-edition → tie.Start
 entry c = c .before .before .before .before .before
 
 -- it is answered as the code answers it
-answer2 : (c : tie.After-edition-known) {b : Bool} → c .edition-known .result ≡ b → knownEdition (group (entry c) .edition) ≡ b
-answer2 c e = sym (c .edition-known .ensures) ∙ e
+answer2 : (c : tie.After-known-edition) {b : Bool} → c .known-edition .result ≡ b → knownEdition (group (entry c) .edition) ≡ b
+answer2 c e = sym (c .known-edition .ensures) ∙ e
 
 -- ---- past question 2
 
@@ -120,7 +120,7 @@ abbrev start2 : tie.Else1 → tie.Start
 start2 c = entry (c .before)
 
 yes2 : (c : tie.Else1) → knownEdition (group (start2 c) .edition) ≡ true
-yes2 c = answer2 (c .before) (not-false (c .before .edition-known .result) (c .if1 .left))
+yes2 c = answer2 (c .before) (not-false (c .before .known-edition .result) (c .if1 .left))
 
 -- ---- past questions 3 to 7
 
@@ -202,13 +202,13 @@ all-passed c = let l = c .before in past19 l (le-leb (size l) (room l) (omega ar
 
 -- ---- the needs
 
-edition-known-requires : tie.Need-edition-known-requires
-edition-known-requires c κs = search needs
+known-edition-requires : tie.Need-known-edition-requires
+known-edition-requires c κs = search needs
 
 returns : tie.Need-returns
 returns c =
     let k = c .before in
-    says-refused (entry k) (edition-fails (entry k) (answer2 k (not-true (k .edition-known .result) (c .if1 .taken))))
+    says-refused (entry k) (edition-fails (entry k) (answer2 k (not-true (k .known-edition .result) (c .if1 .taken))))
 
 header-verdict-requires : tie.Need-header-verdict-requires
 header-verdict-requires c κs = search needs
@@ -260,7 +260,7 @@ pub write-spec : {M : Type 1} → statement M
 write-spec =
     tie.close
     (tie.spec
-    edition-known-requires
+    known-edition-requires
     returns
     header-verdict-requires
     enum-known-verdict
