@@ -59,6 +59,7 @@ impl Call {
 #[derive(Clone, Copy, Debug, PartialEq, Eq)]
 pub enum Joined {
     None,
+    AboutATwentieth,
     AboutAQuarter,
     AboutHalf,
 }
@@ -91,6 +92,7 @@ pub fn group_of_edition_2(risks: usize, claims: usize, joined: Joined) -> Sample
     let mut joins = |claim: usize| match joined {
         _ if claim == 0 => false,
         Joined::None => false,
+        Joined::AboutATwentieth => random.one_in(20),
         Joined::AboutAQuarter => random.one_in(4),
         Joined::AboutHalf => random.one_in(2),
     };

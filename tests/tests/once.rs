@@ -38,7 +38,12 @@ fn each_call() {
 #[test]
 fn each_call_in_edition_2() {
     for call in ["rate", "table", "read", "write", "guaranteed"] {
-        for joined in ["none-joined", "quarter-joined", "half-joined"] {
+        for joined in [
+            "none-joined",
+            "twentieth-joined",
+            "quarter-joined",
+            "half-joined",
+        ] {
             for sizes in [&[][..], &["16"], &["1", "1"], &["255", "63"]] {
                 let output = once(&[&[call, joined], sizes].concat());
                 assert!(
@@ -110,8 +115,13 @@ fn wrong_usage() {
 fn groups_are_rated() {
     for risks in [1, 2, 3, 16, 255] {
         for claims in 1..=MOST_CLAIMS_PER_RISK {
-            let of_edition_2 = [Joined::None, Joined::AboutAQuarter, Joined::AboutHalf]
-                .map(|joined| desk::group_of_edition_2(risks, claims, joined));
+            let of_edition_2 = [
+                Joined::None,
+                Joined::AboutATwentieth,
+                Joined::AboutAQuarter,
+                Joined::AboutHalf,
+            ]
+            .map(|joined| desk::group_of_edition_2(risks, claims, joined));
             for sample in [desk::group(risks, claims)].iter().chain(&of_edition_2) {
                 let rated = second_rater::rate(&sample.file(), AMPLE);
                 assert!(rated.is_ok(), "{risks} risks of {claims} claims: {rated:?}");
@@ -127,6 +137,7 @@ fn largest_groups_of_either_edition() {
     let of_edition_1 = desk::group(most.0, most.1);
     for (joined, least, greatest) in [
         (Joined::None, 0, 0),
+        (Joined::AboutATwentieth, 700, 880),
         (Joined::AboutAQuarter, 3_700, 4_300),
         (Joined::AboutHalf, 7_600, 8_300),
     ] {

@@ -23,13 +23,21 @@ enum Of {
     Most,
     /// 255 risks in edition 2.
     NoneJoined,
+    TwentiethJoined,
     QuarterJoined,
     HalfJoined,
 }
 
-use Of::{Few, HalfJoined, Most, NoneJoined, QuarterJoined};
+use Of::{Few, HalfJoined, Most, NoneJoined, QuarterJoined, TwentiethJoined};
 
-const GROUPS: [Of; 5] = [Few, Most, NoneJoined, QuarterJoined, HalfJoined];
+const GROUPS: [Of; 6] = [
+    Few,
+    Most,
+    NoneJoined,
+    TwentiethJoined,
+    QuarterJoined,
+    HalfJoined,
+];
 
 /// The number of risks of the small group.
 const FEW: usize = 16;
@@ -42,6 +50,7 @@ impl Of {
             Few => "16 risks",
             Most => "255 risks",
             NoneJoined => "255 risks, edition 2, no claim joined",
+            TwentiethJoined => "255 risks, edition 2, a twentieth joined",
             QuarterJoined => "255 risks, edition 2, a quarter joined",
             HalfJoined => "255 risks, edition 2, half joined",
         }
@@ -53,6 +62,7 @@ impl Of {
             Few => Case::new(FEW, MOST_CLAIMS_PER_RISK),
             Most => Case::new(MOST_RISKS, MOST_CLAIMS_PER_RISK),
             NoneJoined => of_edition_2(Joined::None),
+            TwentiethJoined => of_edition_2(Joined::AboutATwentieth),
             QuarterJoined => of_edition_2(Joined::AboutAQuarter),
             HalfJoined => of_edition_2(Joined::AboutHalf),
         }
@@ -63,7 +73,7 @@ impl Of {
 #[derive(Clone, Copy, PartialEq)]
 struct Measured(Call, Of);
 
-const ALL: [Measured; 26] = [
+const ALL: [Measured; 27] = [
     Measured(Call::Rate, Few),
     Measured(Call::Rate, Most),
     Measured(Call::TunedRater(ClaimByClaim), Most),
@@ -81,6 +91,7 @@ const ALL: [Measured; 26] = [
     Measured(Call::Guaranteed, Most),
     Measured(Call::SecondRatersGuaranteed, Most),
     Measured(Call::Rate, NoneJoined),
+    Measured(Call::Rate, TwentiethJoined),
     Measured(Call::Rate, QuarterJoined),
     Measured(Call::Rate, HalfJoined),
     Measured(Call::StraightforwardRater, QuarterJoined),
@@ -127,7 +138,7 @@ const GROWTH_GOAL: &str = "below 17";
 /// The goal of Rate in edition 2 to Rate in edition 1, a claim. The files have as many claims.
 const EDITION_GOAL: &str = "at most 1.3";
 
-const RATIOS: [Ratio; 20] = [
+const RATIOS: [Ratio; 21] = [
     ratio(
         "Rate to the tuned rater, 255 risks",
         Measured(Call::Rate, Most),
@@ -201,6 +212,12 @@ const RATIOS: [Ratio; 20] = [
     ratio(
         "Rate a claim, edition 2 with no claim joined to edition 1",
         Measured(Call::Rate, NoneJoined),
+        Measured(Call::Rate, Most),
+    )
+    .goal(EDITION_GOAL),
+    ratio(
+        "Rate a claim, edition 2 with a twentieth joined to edition 1",
+        Measured(Call::Rate, TwentiethJoined),
         Measured(Call::Rate, Most),
     )
     .goal(EDITION_GOAL),
@@ -357,9 +374,11 @@ fn main() {
     let a_claim = |of: Of| median(Measured(Call::Rate, of)) / CLAIMS as f64;
     println!(
         "Rate, {CLAIMS} claims, ns a claim: edition 1 {:.3}; edition 2 {:.3} with no claim joined, \
-         {:.3} with a quarter joined, {:.3} with half joined (goal {EDITION_GOAL} of edition 1)",
+         {:.3} with a twentieth joined, {:.3} with a quarter joined, {:.3} with half joined (goal \
+         {EDITION_GOAL} of edition 1)",
         a_claim(Most),
         a_claim(NoneJoined),
+        a_claim(TwentiethJoined),
         a_claim(QuarterJoined),
         a_claim(HalfJoined),
     );

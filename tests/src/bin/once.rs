@@ -32,8 +32,9 @@ const CALLS: [(&str, Call); 11] = [
 ];
 
 /// The groups in edition 2 by the names that the arguments have for them.
-const JOINED: [(&str, Joined); 3] = [
+const JOINED: [(&str, Joined); 4] = [
     ("none-joined", Joined::None),
+    ("twentieth-joined", Joined::AboutATwentieth),
     ("quarter-joined", Joined::AboutAQuarter),
     ("half-joined", Joined::AboutHalf),
 ];
