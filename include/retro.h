@@ -206,9 +206,9 @@ uint32_t retro_table(const uint8_t *file, size_t file_len, uint32_t entry_ratio,
  *     joined  gets the bit of each claim in the same order: 1 where it belongs to the same accident
  *             as the claim before it in that risk, else 0. For a file of edition 1 all are 0.
  *
- * As many entries as there are risks, claims and claims again are enough, in edition 1 too, so
- * RETRO_MOST_RISKS counts, RETRO_MOST_CLAIMS claims and RETRO_MOST_CLAIMS bits always are. Later
- * entries keep their contents.
+ * As many counts as there are risks and as many claims and bits as there are claims are enough, the
+ * bits in edition 1 too; so RETRO_MOST_RISKS counts, RETRO_MOST_CLAIMS claims and RETRO_MOST_CLAIMS
+ * bits always are. Later entries keep their contents.
  */
 retro_group retro_read(const uint8_t *file, size_t file_len, uint8_t *counts, size_t counts_len,
                        uint32_t *claims, size_t claims_len, uint8_t *joined, size_t joined_len);
