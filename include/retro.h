@@ -4,10 +4,10 @@
  * A group file holds one size group: 1 to 255 risks with the same standard premium, each with 0 to
  * 63 claims. There are two editions of it. In edition 2 each claim has a bit before its dollars: 1
  * where it belongs to the same accident as the claim before it in that risk, else 0. The loss limit
- * applies to an accident's sum. In edition 1 a claim has no bit, and each is its own accident. Every
- * call takes a file of either edition. The calls rate such a file (retro_rate), rate it beside guaranteed cost
- * (retro_guaranteed), give the group's charge and savings at an entry ratio (retro_table), take a
- * file apart (retro_read) and make one (retro_write).
+ * applies to an accident's sum. In edition 1 a claim has no bit and is its own accident. Every call
+ * on a file takes either edition. The calls rate such a file (retro_rate), rate it beside
+ * guaranteed cost (retro_guaranteed), give the group's charge and savings at an entry ratio
+ * (retro_table), take a file apart (retro_read) and make one (retro_write).
  *
  * Building
  *
@@ -37,8 +37,8 @@
  *     13  Is each lent buffer long enough?
  *     14  Is the entry ratio at most 600 hundredths?
  *     15  Do the number of risks, the counts, the claims and the header values fit their widths in
- *         the file, and do the counts add to the number of claims? Is there a bit for each claim,
- *         no bit above 1, and in edition 1 no bit above 0?
+ *         the file, and do the counts add to the number of claims? Are there exactly as many bits
+ *         as claims, none above 1, and in edition 1 none above 0?
  *     16  Are all four rates of the schedule at most 1,000 tenths of a percent?
  *     17  Are the first three widths of the schedule at least 1?
  *     18  Is the minimum mark at most the maximum mark, both as written in thousandths?
@@ -60,7 +60,7 @@
  * A slice is a pointer and a count of elements. Its pointer may be null where the count is 0. Every
  * other pointer, also that to a number, must be aligned for its type and point to as many elements
  * as the count says, readable ones, and writable ones where it is not to const. This alone is not
- * checked. Bytes, counts, claims and values of any kind are answered.
+ * checked. Bytes, counts, claims, bits and values of any kind are answered.
  *
  * What a call writes must not overlap with anything else that the same call is given.
  *
@@ -221,9 +221,9 @@ retro_group retro_read(const uint8_t *file, size_t file_len, uint8_t *counts, si
  *     counts   has the number of claims of each risk, 0 to 63. There are as many risks as counts, 1
  *              to 255.
  *     claims   has all claims in dollars in the order of retro_read, each at most 1,048,575.
- *     joined   has the bit of each claim, as many as there are claims: 1 where it belongs to the same
- *              accident as the claim before it in that risk, else 0. The first of a risk is 0. In
- *              edition 1, whose claims have no bits, all are 0.
+ *     joined   has the bit of each claim, as many as there are claims: 1 where it belongs to the
+ *              same accident as the claim before it in that risk, else 0. The first of a risk is 0.
+ *              In edition 1, whose claims have no bits, all are 0.
  *     file     gets the file's bytes. RETRO_LARGEST_FILE bytes are always enough. Bytes after the
  *              file keep their contents.
  *     length   gets the number of bytes of the file.

@@ -3,7 +3,7 @@
 -- law takes one claim, or one risk, more. Assumes nothing.
 use mathlib.Core.Path.{_≡_, refl, sym, ap, ap₂, _∙_, subst}
 use mathlib.Core.Bool.{Bool, true, _&&_, _||_}
-use mathlib.Core.List.{List, [], _∷_, _++_, map}
+use mathlib.Core.List.{List, [], _∷_, map}
 use Prim.Native.Nat.{ℕ, zero, suc, _+_, _*_, _%_, _^_, _≤_, _<_, min}
 use native.Mathlib.Omega.{arith}
 use borrow.Author.Tests.{eq-eqb, ne-eqb}
@@ -13,7 +13,7 @@ use Rattle.plan.specs.Arithmetic.{sum}
 use Rattle.plan.specs.Field.{field}
 use Rattle.plan.specs.Sizes.{largestClaim, mostClaims, mostRisks, mostRiskLosses, mostRiskBits}
 use Rattle.plan.specs.Header.{editionOf, headerBits}
-use Rattle.plan.specs.Claim.{Claim, joined, dollars, joinedWidth, dollarsWidth, claimWidth, claimAt, pastClaim, claimsFrom, pastClaims}
+use Rattle.plan.specs.Claim.{Claim, joined, dollars, joinedWidth, dollarsWidth, claimWidth, claimAt, claimsFrom, pastClaims}
 use Rattle.plan.specs.Risk.{countAt, firstClaim, claimsAt, pastRisk, countsFrom, risksFrom, pastRisks}
 use Rattle.plan.specs.Accidents.{opens, allOpen}
 use Rattle.plan.specs.Losses.{Losses, limitedTo, totalOf, limitedOf, lossesOf, lossesFrom}

@@ -2,7 +2,7 @@
 use mathlib.Core.Path.{_≡_}
 use mathlib.Core.List.{List}
 use Prim.Native.Nat.{ℕ, _+_, _-_, _*_, _/_, _%_, _^_, _≤_}
-use Rattle.plan.specs.Sizes.{mostClaims, mostFileBits}
+use Rattle.plan.specs.Sizes.{mostClaims, mostClaimWidth, mostFileBits}
 use Rattle.plan.specs.Claim.{Claim, claim, joined, dollars, dollarsWidth, claimAt, pastClaim}
 use Rattle.claims.specs.declared.claim.TakenClaim.{TakenClaim}
 
@@ -11,10 +11,10 @@ pub record RunReach (at count : ℕ) : Type 0 where
   pub few : count ≤ mostClaims
   pub inside : at ≤ mostFileBits
 
--- the word of the claim after `count` others, and of each before it, ends at byte `reach` or before, as claims have 21 bits at most
+-- the word of the claim after `count` others, and of each before it, ends at byte `reach` or before, whichever edition they are of
 pub record ClaimReach (at count reach : ℕ) : Type 0 where
-  pub inside : at + 21 * count ≤ mostFileBits + 21 * mostClaims
-  pub ends : (at + 21 * count) / 8 + 8 ≤ reach
+  pub inside : at + mostClaimWidth * count ≤ mostFileBits + mostClaimWidth * mostClaims
+  pub ends : (at + mostClaimWidth * count) / 8 + 8 ≤ reach
 
 -- the claim at the place `at` of the file s, and the place after it
 pub record ClaimTaken (s : List ℕ) (at : ℕ) (r : TakenClaim) : Type 0 where

@@ -254,7 +254,7 @@ fn join_from(sums: AccidentSums, word: u64, low: u32, most: u32) -> AccidentSums
     join_claim(sums, joined, dollars, most)
 }
 
-// The same of both claims of a pair, where either opens an accident: the one before them ends, and the first of them.
+// The same of both claims of a pair, where each opens an accident: the one before them ends, and the first of them.
 fn open_pair(sums: AccidentSums, word: u64, most: u32) -> AccidentSums
     requires { ⌜ PairRoom sums most × PairOpens word ⌝ }
     ensures { λ r. ⌜ PairAdded sums (claimIn word firstLow) (claimIn word secondLow) most r ⌝ }
@@ -273,7 +273,7 @@ fn open_pair(sums: AccidentSums, word: u64, most: u32) -> AccidentSums
     }
 }
 
-// The same of any pair. Most claims are accidents of their own, and a pair of such is added with less.
+// The same of any pair. One whose claims are accidents of their own is added with fewer steps.
 fn join_pair(sums: AccidentSums, word: u64, most: u32) -> AccidentSums
     requires { ⌜ PairRoom sums most ⌝ }
     ensures { λ r. ⌜ PairAdded sums (claimIn word firstLow) (claimIn word secondLow) most r ⌝ }

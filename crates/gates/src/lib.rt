@@ -1,4 +1,4 @@
-// Questions 1 to 10 and 1 to 12 of a file, 18 in its place among them, with what the calls go on from. They need no buffer: a call
+// Questions 1 to 10 and 1 to 12 of a file, 18 and 19 in their places among them, with what the calls go on from. They need no buffer: a call
 // asks its own last questions after them, before anything is stored.
 ghost use Rattle.plan.specs.Questions.{lossQuestions};
 ghost use Rattle.groupfile.specs.Opening.{OpenedIs};

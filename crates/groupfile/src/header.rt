@@ -1,7 +1,7 @@
-// The header of a group file: its eleven fields, taken one after another, and questions 3 to 7 of their values, with 18 after 6.
+// The header of a group file: its eleven fields, taken one after another; whether an edition is known; and
+// questions 3 to 7 of header values, with 18 after 6.
 ghost use mathlib.Core.Path.{_≡_};
 ghost use Rattle.plan.specs.Questions.{firstNo, knownEdition, headerQuestions};
-ghost use Rattle.plan.specs.Header.{headerBits};
 ghost use Rattle.group.specs.Values.{headerIs, verdictIs};
 ghost use Rattle.groupfile.specs.Header.{between, tax-place, FirstFieldsAre, LastFieldsAre, FileHeaderIs};
 use bits::BitPlace;

@@ -1,4 +1,4 @@
-// A file opened: questions 1 to 9, 18 in its place among them and 19 behind them, with all that Rate and Table take from it, or, as
+// A file opened: questions 1 to 9, 18 and 19 in their places, with all that Rate and Table take from it, or, as
 // its outline, with all that Read takes. Every call on a file passes this gate first; it needs no buffer.
 ghost use mathlib.Core.Path.{_≡_};
 ghost use Rattle.plan.specs.Accidents.{allOpen};

@@ -6,12 +6,14 @@
 ghost use mathlib.Core.Path.{_≡_};
 ghost use Prim.Native.Nat.{_+_, _*_, _^_, _≤_, _<_};
 ghost use lib.ListN.{length};
+ghost use Rattle.plan.specs.Sizes.{mostClaimWidth};
 ghost use Rattle.plan.specs.Field.{slots};
 ghost use Rattle.plan.specs.Claim.{dollarsWidth, slotsOfClaims, claimsOf};
 ghost use Rattle.bits.specs.Runs.{Space, Wrote};
 use bits::BitPlace;
 use claims::claim::DOLLARS_WIDTH;
 use claims::claim::JOINING_EDITION;
+use claims::claim::MOST_CLAIM_WIDTH;
 use words::extract;
 use words::join;
 
@@ -21,9 +23,7 @@ const BYTE_WIDTH: u32 = 8;
 // Bytes of a pair of claims without bits.
 const PAIR_BYTES: usize = 5;
 
-// Bits of a claim with the bit before its dollars, and how many more a pair of those has than the bytes above.
-const BOTH_WIDTH: u32 = 21;
-
+// How many bits more a pair of claims with bits has than the bytes above.
 const PAIR_MORE: u32 = 2;
 
 // A claim's bit and its dollars as one number.
@@ -36,7 +36,7 @@ fn as_one(joined: u8, dollars: u32) -> u32
 
 // The bits that are held, then two numbers of `width` bits.
 fn pair_after(held: u64, width: u32, first: u32, second: u32) -> u64
-    requires { ⌜ width ≤ 21 ⌝ }
+    requires { ⌜ width ≤ mostClaimWidth ⌝ }
     requires { ⌜ (held < 2 ^ 8) × (first < 2 ^ width) × (second < 2 ^ width) ⌝ }
     ensures { λ r. ⌜ r ≡ (held * 2 ^ width + first) * 2 ^ width + second ⌝ }
 {
@@ -84,7 +84,7 @@ fn put_joined(out: &mut [u8], place: BitPlace, joined: &[u8], claims: &[u32]) ->
     while i + 1 < claims.len() {
         let one = as_one(joined[i], claims[i]);
         let two = as_one(joined[i + 1], claims[i + 1]);
-        let word = pair_after(held, BOTH_WIDTH, one, two);
+        let word = pair_after(held, MOST_CLAIM_WIDTH, one, two);
         bits += PAIR_MORE;
         BitPlace { at: 8 * byte }.put_five(out, word >> bits);
         held = extract(word, 0, bits);
@@ -99,7 +99,7 @@ fn put_joined(out: &mut [u8], place: BitPlace, joined: &[u8], claims: &[u32]) ->
     }
     let next = BitPlace { at: 8 * byte }.put(out, bits, held as u32);
     if i < joined.len() {
-        return next.put(out, BOTH_WIDTH, as_one(joined[i], claims[i]));
+        return next.put(out, MOST_CLAIM_WIDTH, as_one(joined[i], claims[i]));
     }
     next
 }

@@ -1,5 +1,5 @@
 -- 'Proved cases, with the group above as the first': one list, over literal bytes, computed by the prover. Each group's bytes
--- are also the file that its values make. Values that document 01 leaves open are in docs/DECISIONS.md. Assumes nothing.
+-- are also the file that its values make; one file has a fill bit set, which no values make. Values that document 01 leaves open are in docs/DECISIONS.md. Assumes nothing.
 use mathlib.Core.Path.{_≡_, refl}
 use mathlib.Core.List.{List, [], _∷_, map}
 use Prim.Native.Nat.{ℕ, _*_}
@@ -359,6 +359,11 @@ singleFile =
     ∷ []
 
 -- four risks: both claims in one accident, in two, in one with 1,000 after it, and (1,000, 4,000 joined), 3,000
+abbrev accidents : Group
+accidents =
+    joining scaffoldHeader (2 ∷ 2 ∷ 3 ∷ 3 ∷ []) (3000 ∷ 4000 ∷ 3000 ∷ 4000 ∷ 3000 ∷ 4000 ∷ 1000 ∷ 1000 ∷ 4000 ∷ 3000 ∷ [])
+    (0 ∷ 1 ∷ 0 ∷ 0 ∷ 0 ∷ 1 ∷ 0 ∷ 0 ∷ 1 ∷ 0 ∷ [])
+
 abbrev accidentsFile : List ℕ
 accidentsFile =
     32 ∷ 19 ∷ 136 ∷ 0 ∷ 156 ∷ 64 ∷ 1 ∷ 244 ∷ 34 ∷ 98 ∷ 113 ∷ 0 ∷ 225 ∷ 1 ∷ 144 ∷ 8 ∷ 8 ∷ 1 ∷ 119 ∷ 16 ∷ 15 ∷ 160 ∷ 8
@@ -380,6 +385,9 @@ leadingFilledFile =
     ∷ []
 
 -- one claim of 0 with its bit set, and none
+abbrev leadingNothing : Group
+leadingNothing = joining scaffoldHeader (1 ∷ 0 ∷ []) (0 ∷ []) (1 ∷ [])
+
 abbrev leadingNothingFile : List ℕ
 leadingNothingFile =
     32 ∷ 19 ∷ 136 ∷ 0 ∷ 156 ∷ 64 ∷ 1 ∷ 244 ∷ 34 ∷ 98 ∷ 113 ∷ 0 ∷ 225 ∷ 1 ∷ 144 ∷ 4 ∷ 6 ∷ 0 ∷ 0 ∷ 0 ∷ 0 ∷ []
@@ -401,12 +409,14 @@ AccidentsCase =
     × (read scaffoldFile 2 2 2 ≡ given (scaffold (0 ∷ 1 ∷ [])))
     × (write (scaffold (0 ∷ 1 ∷ [])) 23 ≡ given scaffoldFile)
     -- the same claims in two accidents count 7,000, and so in edition 1
+    × Written (group scaffoldHeader (2 ∷ 0 ∷ []) (3000 ∷ 4000 ∷ [])) singleFile
     × Written (scaffold (0 ∷ 0 ∷ [])) apartFile
     × (limiteds apartFile ≡ 7000 ∷ 0 ∷ [])
     × (rate apartFile 8 ≡ rates 2 (pos 1100000) 0 11000 (8250 ∷ 2750 ∷ []))
     × (rate singleFile 8 ≡ rates 2 (pos 1100000) 0 11000 (8250 ∷ 2750 ∷ []))
     × (read singleFile 2 2 2 ≡ given (group scaffoldHeader (2 ∷ 0 ∷ []) (3000 ∷ 4000 ∷ [])))
     -- (3,000, 4,000 joined), 1,000 has A 6,000, and (1,000, 4,000 joined), 3,000 has 8,000
+    × Written accidents accidentsFile
     × (limiteds accidentsFile ≡ 5000 ∷ 7000 ∷ 6000 ∷ 8000 ∷ [])
     × (accidentsOf (claim 0 3000 ∷ claim 1 4000 ∷ claim 0 1000 ∷ []) ≡ 7000 ∷ 1000 ∷ [])
     × (accidentsOf (claim 0 1000 ∷ claim 1 4000 ∷ claim 0 3000 ∷ []) ≡ 5000 ∷ 3000 ∷ [])
@@ -419,6 +429,8 @@ AccidentsCase =
     × (read fourJoiningFile 4 6 6 ≡ given fourJoining)
     × (write fourJoining 35 ≡ given fourJoiningFile)
     -- 19 in each call; after 9 and before 10
+    × Written leading leadingFile
+    × Written leadingNothing leadingNothingFile
     × (rate leadingFile 8 ≡ refused 19)
     × (read leadingFile 2 2 2 ≡ refused 19)
     × (table leadingFile 100 ≡ refused 19)
@@ -444,6 +456,10 @@ AccidentsCase =
 accidentsCase : AccidentsCase
 unfolding bytesOf number bit field claimWidth claimAt pastClaim slotsOfClaim countAt firstClaim limitedOf LG LH SX SS ratable basicPremium excessCharge nearest billRounding billWith ratedOf rate totalWith taxedExpensesAndLosses table read write compare
 accidentsCase = (
+  refl,
+  refl,
+  refl,
+  refl,
   refl,
   refl,
   refl,

@@ -11,7 +11,7 @@ use borrow.Author.Tests.{ltb-true, lt-ltb}
 use lib.Dec.{eqb}
 use lib.ListN.{length, getD, take, drop}
 use lib.Pow.{high, low}
-use Rattle.plan.specs.Sizes.{largestClaim}
+use Rattle.plan.specs.Sizes.{largestClaim, mostClaimWidth}
 use Rattle.plan.specs.Field.{field, Slot, totalWidth, Laid, Fitting, fits, allFit}
 use Rattle.plan.specs.Header.{editionOf}
 use Rattle.plan.specs.Claim.{Claim, claim, joined, dollars, joinedWidth, dollarsWidth, claimWidth, claimAt, pastClaim, claimsFrom}
@@ -35,11 +35,11 @@ joined-width-le edition = either (eqb edition 2)
     either true = omega arith
     either false = omega arith
 
-pub width-le : (edition : ℕ) → claimWidth edition ≤ 21
+pub width-le : (edition : ℕ) → claimWidth edition ≤ mostClaimWidth
 width-le edition = omega (arith, width-is edition, joined-width-le edition)
 
--- so a run of claims has at most 21 bits for each
-pub run-le : (edition k : ℕ) → claimWidth edition * k ≤ 21 * k
+-- so a run of claims has at most so many bits for each
+pub run-le : (edition k : ℕ) → claimWidth edition * k ≤ mostClaimWidth * k
 run-le edition k = mul-le-mul-right k (width-le edition)
 
 -- ---- one claim
@@ -107,7 +107,7 @@ past-claims s at (suc k) = omega (arith, past-claims s (pastClaim s at) k, past-
 pub past-claims-by : (s : List ℕ) {w : ℕ} → w ≡ claimWidth (editionOf s) → (at k : ℕ) → pastClaims s at k ≡ at + w * k
 past-claims-by s e at k = past-claims s at k ∙ ap (λ (w : ℕ). at + w * k) (sym e)
 
-pub past-claims-le : (s : List ℕ) (at k : ℕ) → pastClaims s at k ≤ at + 21 * k
+pub past-claims-le : (s : List ℕ) (at k : ℕ) → pastClaims s at k ≤ at + mostClaimWidth * k
 past-claims-le s at k = omega (arith, past-claims s at k, run-le (editionOf s) k)
 
 -- a part of claim i of a run, as its dollars, is that of the claim at the place where i claims end

@@ -1,6 +1,6 @@
 -- Sizes of a file and of its group: the fields' widths bound n, the place where the last field ends, the length, and each number
 -- that step 1 gives. Assumes nothing.
-use mathlib.Core.Path.{_≡_, sym, subst}
+use mathlib.Core.Path.{sym, subst}
 use mathlib.Core.List.{List}
 use Prim.Native.Nat.{ℕ, _*_, _≤_}
 use native.Mathlib.Omega.{arith}
@@ -29,7 +29,7 @@ end-le s = omega (arith, past-risks-le s headerBits (riskCount s), risks-le s)
 pub end-within : (s : List ℕ) → FileSound s → endOf s ≤ 8 * length s
 end-within s f = omega (arith, f .ends)
 
--- 'The largest file has 40,370 bytes.'
+-- job 4: 'The largest file becomes 42,378 bytes.'
 pub file-le : (s : List ℕ) → FileSound s → length s ≤ largestFile
 file-le s f = omega (arith, f .ends, end-le s)
 

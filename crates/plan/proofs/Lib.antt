@@ -11,6 +11,7 @@ pub mod Claims
 pub mod Risks
 pub mod Accidents
 pub mod Losses
+pub mod FirstEdition
 pub mod Filled
 pub mod Questions
 pub mod Curve

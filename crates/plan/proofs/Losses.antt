@@ -5,8 +5,8 @@ use mathlib.Core.Path.{_≡_, refl, sym, ap, _∙_}
 use mathlib.Core.List.{List, [], _∷_, _++_, map, map-append}
 use Prim.Native.Nat.{ℕ, zero, suc, _+_, _*_, _≤_, min}
 use native.Mathlib.Omega.{arith}
-use lib.ListN.{length, take, length-map}
-use Rattle.plan.specs.Arithmetic.{sumOf}
+use lib.ListN.{length, getD, take, length-map}
+use Rattle.plan.specs.Arithmetic.{sum}
 use Rattle.plan.specs.Sizes.{largestClaim, mostRiskLosses}
 use Rattle.plan.specs.Header.{headerOf, headerBits, riskCount}
 use Rattle.plan.specs.Claim.{Claim, joined, dollars, claimAt, pastClaim, claimsFrom, pastClaims}
@@ -15,7 +15,7 @@ use Rattle.plan.specs.Accidents.{accidentsOf}
 use Rattle.plan.specs.Losses.{Losses, limitedTo, totalOf, limitedOf, lossesOf, SL, SA, lossesFrom, lossesIn, lossesSoFar}
 use Rattle.plan.proofs.Sums.{sum-le, sum-map, sum-append}
 use Rattle.plan.proofs.Claims.{dollars-le, claims-more}
-use Rattle.plan.proofs.Accidents.{lastOf, beforeLast, all-accidents, More, one-more, sum-accidents, last-le}
+use Rattle.plan.proofs.Accidents.{lastOf, beforeLast, all-accidents, More, one-more, sum-accidents}
 use Rattle.plan.proofs.Risks.{count-le, length-risks, risks-more}
 
 -- ---- A is at most L
@@ -114,13 +114,20 @@ pub claims-total-le : (s : List ℕ) (at k : ℕ) → totalOf (claimsFrom s at k
 claims-total-le s at zero = omega arith
 claims-total-le s at (suc k) = omega (arith, dollars-le s at, claims-total-le s (pastClaim s at) k)
 
--- and so is the last accident's sum
-pub last-accident-le : (s : List ℕ) (at k : ℕ) → lastOf (claimsFrom s at k) ≤ largestClaim * k
-last-accident-le s at k = omega (arith, last-le (claimsFrom s at k), claims-total-le s at k)
-
 -- L of a risk: 63 claims at most
 pub risk-total-le : (s : List ℕ) (at : ℕ) → totalOf (claimsAt s at) ≤ mostRiskLosses
 risk-total-le s at = omega (arith, count-le s at, claims-total-le s (firstClaim at) (countAt s at))
+
+-- and so each of its accidents: sum i of the list, 0 behind the last
+pub accident-le : (s : List ℕ) (at i : ℕ) → getD (accidentsOf (claimsAt s at)) i 0 ≤ mostRiskLosses
+accident-le s at i =
+    omega (arith, entry-le (accidentsOf (claimsAt s at)) i, sum-accidents (claimsAt s at), risk-total-le s at)
+  where
+    entry-le : (xs : List ℕ) (i : ℕ) → getD xs i 0 ≤ sum xs
+    entry-le [] zero = omega arith
+    entry-le [] (suc i) = omega arith
+    entry-le (x ∷ xs) zero = omega arith
+    entry-le (x ∷ xs) (suc i) = omega (arith, entry-le xs i)
 
 -- ---- sums so far: of the first risks of a file
 

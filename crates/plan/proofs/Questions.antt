@@ -3,12 +3,11 @@
 -- for, and those facts give its Yes: each question has a line of its own in either direction. Leaving out a question that is
 -- answered Yes changes no first No. A range of questions, as 1 to 9, has 18 in its place, after 6 and before 7, and 19 in its, after 9.
 -- Assumes nothing.
-use mathlib.Core.Path.{_≡_, refl, _∙_, sym, ap}
+use mathlib.Core.Path.{_≡_, refl, _∙_, ap}
 use mathlib.Core.Bool.{Bool, true, false, cond, _&&_, _||_}
 use mathlib.Core.List.{List, [], _∷_, _++_}
 use Prim.Native.Nat.{ℕ, _≤_}
 use lib.Dec.{eqb}
-use lib.IntN.{ℤ, pos, negsuc}
 use lib.Signed.{nonNeg}
 use lib.ListN.{length}
 use borrow.Author.Tests.{leb-true, le-leb, eqb-true, eq-eqb}
@@ -24,7 +23,7 @@ use Rattle.plan.specs.Questions.{question10}
 use Rattle.plan.specs.Questions.{headerQuestions, endQuestions, fileQuestions, balanceQuestions, lossQuestions, ratingQuestions}
 use Rattle.plan.specs.Questions.{rateQuestions, tableQuestions, readQuestions, writeQuestions}
 use Rattle.plan.specs.Bounds.{HeaderSound}
-use Rattle.plan.specs.Calls.{Answer, refused, given, answer}
+use Rattle.plan.specs.Calls.{refused, given, answer}
 use Rattle.plan.proofs.Tests.{both, and-yes}
 
 -- ---- the order in which each call asks

@@ -3,7 +3,7 @@
 use mathlib.Core.Path.{_≡_, refl, sym, ap, ap₂, _∙_, subst}
 use mathlib.Core.Bool.{true}
 use mathlib.Core.List.{List, [], _∷_, _++_, append-assoc, append-nil, map, map-append}
-use Prim.Native.Nat.{ℕ, zero, suc, _+_, _-_, _*_, _≤_, _<_}
+use Prim.Native.Nat.{ℕ, zero, suc, _+_, _-_, _*_, _≤_}
 use native.Mathlib.Nat.{zero-add}
 use native.Mathlib.Omega.{arith}
 use borrow.Author.Tests.{lt-ltb}
@@ -13,7 +13,7 @@ use Rattle.plan.specs.Arithmetic.{sum}
 use Rattle.plan.specs.Sizes.{mostClaims, mostRiskBits}
 use Rattle.plan.specs.Field.{Slot, slot, slots, totalWidth, Laid, Fitting, allFit}
 use Rattle.plan.specs.Header.{editionOf}
-use Rattle.plan.specs.Claim.{Claim, joined, dollars, joinedWidth, dollarsWidth, claimWidth, claimsFrom, pastClaims}
+use Rattle.plan.specs.Claim.{Claim, joined, dollars, joinedWidth, dollarsWidth, claimWidth, claimsFrom}
 use Rattle.plan.specs.Claim.{slotsOfClaims, claimsOf}
 use Rattle.plan.specs.Risk.{countWidth, countAt, firstClaim, claimsAt, pastRisk, countsFrom, risksFrom, pastRisks, allClaims}
 use Rattle.plan.specs.Risk.{divided, slotsOfRisks}

@@ -14,9 +14,8 @@ use Rattle.plan.specs.Field.{bit, field, fits, bytesFor}
 use Rattle.plan.specs.Header.{Header, headerOf, headerBits, riskCount, headerSlots, lossLimitField, standardPremiumField}
 use Rattle.plan.specs.Header.{expenseField, conversionField, taxField, markKindField, maximumMarkField, minimumMarkField}
 use Rattle.plan.specs.Header.{risksField}
-use Rattle.plan.specs.Claim.{Claim}
-use Rattle.plan.specs.Risk.{risksFrom, divided, slotsOfRisks}
-use Rattle.plan.specs.File.{Group, countsOf, risksOf, claimsIn, endOf, groupOf, claimsGiven, fileSlots, fileOf, fileLength}
+use Rattle.plan.specs.Risk.{divided, slotsOfRisks}
+use Rattle.plan.specs.File.{Group, countsOf, risksOf, claimsIn, endOf, groupOf, claimsGiven, fileSlots, fileOf}
 use Rattle.plan.specs.Accidents.{allOpen}
 use Rattle.plan.specs.Questions.{passed, firstNo, knownEdition, fileQuestions, headerFits, question13, readEnough, readQuestions}
 use Rattle.plan.specs.Questions.{writeQuestions}

@@ -5,7 +5,7 @@ use mathlib.Core.Bool.{Bool, true, false, _||_}
 use mathlib.Core.List.{List, [], _∷_, _++_}
 use Prim.Native.Nat.{ℕ, _^_, _*_, _≤_, _<_}
 use native.Mathlib.Omega.{arith}
-use borrow.Author.Tests.{ltb-true, lt-ltb, le-leb, eqb-true, eq-eqb}
+use borrow.Author.Tests.{ltb-true, le-leb, eqb-true, eq-eqb}
 use lib.Dec.{lit<, eqb}
 use lib.ListN.{length}
 use Rattle.plan.specs.Arithmetic.{sum}

@@ -15,12 +15,12 @@ accidentsFrom last (claim zero d ∷ cs) = last ∷ accidentsFrom d cs
 accidentsFrom last (claim (suc j) d ∷ cs) = accidentsFrom (last + d) cs
 
 -- the sums of a risk's accidents. The first claim opens one whatever its bit; where question 19 is answered Yes that bit is 0, so no
--- result depends on what a leading 1 means here
+-- answer of a call depends on what a leading 1 means here
 abbrev pub accidentsOf : List Claim → List ℕ
 accidentsOf [] = []
 accidentsOf (claim j d ∷ cs) = accidentsFrom d cs
 
--- whether a risk's first claim has the bit 0, as a risk without claims has
+-- whether a risk's first claim has the bit 0; a risk without claims passes
 abbrev pub opens : List Claim → Bool
 opens [] = true
 opens (c ∷ cs) = eqb (joined c) 0

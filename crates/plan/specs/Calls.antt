@@ -106,7 +106,8 @@ table s r =
 
 -- ---- 'Read: file, a buffer for the claim counts and one for the claims. Gives the header and fills the first n counts and as
 -- many claims as they add to; entries after those keep their contents, as do bytes after the length in Write.' And job 4: 'Read fills
--- a third buffer with the bits, all 0 for edition 1.'
+-- a third buffer with the bits, all 0 for edition 1.' It gives the edition with the header: 'the writer takes the edition, and reading
+-- back is equal for either'
 
 unfoldable pub read : List ℕ → ℕ → ℕ → ℕ → Answer Group
 read s countsRoom claimsRoom joinedRoom = answer (firstNo (readQuestions s countsRoom claimsRoom joinedRoom)) (groupOf s)

@@ -22,7 +22,7 @@ dollars (claim j d) = d
 -- ---- widths
 
 -- 'first one bit' in edition 2. 'Edition 1 is still read', without one: a field of no bits, which is 0. No other edition passes
--- question 2, so what stands here for those is in no result
+-- question 2, so no answer of a call depends on what stands here for those
 abbrev pub joinedWidth : ℕ → ℕ
 joinedWidth edition = cond (eqb edition 2) 1 0
 

@@ -10,7 +10,7 @@ use Rattle.plan.specs.Risk.{countsFrom, risksFrom, pastRisks, allClaims,
 
 -- a group's values; n is the number of counts
 pub record Group : Type 0 where
-  -- 1 or 2
+  -- 1 or 2 where question 2 is answered Yes
   pub edition : ℕ
   -- loss limit to minimum mark
   pub header : Header

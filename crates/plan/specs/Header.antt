@@ -20,7 +20,7 @@ after x w = record { at = end x; width = w }
 abbrev pub editionField : Extent
 editionField = record { at = 0; width = 4 }
 
--- 'loss limit per claim 20 (0 means no limit)'
+-- 'loss limit per claim 20 (0 means no limit)'; since job 4 'The limit applies to the accident's sum'
 abbrev pub lossLimitField : Extent
 lossLimitField = after editionField 20
 
@@ -70,7 +70,7 @@ valueOf s x = field s (x .at) (x .width)
 
 -- the header values: 'loss limit to minimum mark'
 pub record Header : Type 0 where
-  -- dollars per claim in edition 1, per accident in edition 2; 0 means no limit
+  -- dollars per accident; 0 means no limit
   pub lossLimit : ℕ
   -- P, dollars
   pub standardPremium : ℕ

@@ -33,6 +33,10 @@ mostClaims = 63
 abbrev pub largestClaim : ℕ
 largestClaim = 1048575
 
+-- a claim's fields: a bit and 20 bits at most
+abbrev pub mostClaimWidth : ℕ
+mostClaimWidth = 21
+
 -- an expense provision: 20 bits
 abbrev pub largestExpense : ℕ
 largestExpense = 1048575

@@ -7,7 +7,7 @@ use lib.ListN.{length}
 use Rattle.plan.specs.Header.{headerOf, headerBits, editionOf, riskCount}
 use Rattle.plan.specs.File.{Group, countsOf, groupOf}
 use Rattle.plan.specs.Questions.{Verdict, passed, failed, firstNo, orElse, fileQuestions, question13, readEnough, readQuestions}
-use Rattle.plan.specs.Calls.{Answer, refused, given, giving, filled, bufferAfter, read}
+use Rattle.plan.specs.Calls.{Answer, given, giving, filled, bufferAfter, read}
 use Rattle.plan.proofs.Questions.{after-gate, answered}
 use Rattle.plan.proofs.Risks.{length-counts}
 use Rattle.group.specs.Values.{headerIs}

@@ -2,19 +2,19 @@
 -- the part of a claim; after i risks their counts, claims and bits fill the first entries of their buffers. Each law takes one claim, or
 -- one risk, more. Assumes nothing.
 use mathlib.Core.Path.{_≡_, refl, sym, ap, ap₂, _∙_}
-use mathlib.Core.List.{List, [], _∷_, _++_, map}
-use Prim.Native.Nat.{ℕ, _+_, _*_, _≤_, _<_}
+use mathlib.Core.List.{List, [], _∷_, map}
+use Prim.Native.Nat.{ℕ, _+_, _≤_, _<_}
 use native.Mathlib.Numerals.{add-one}
 use native.Mathlib.Omega.{arith}
 use lib.ListN.{length, getD, set, length-set, length-map}
 use lib.Seq.{paste, paste-zero, paste-suc}
 use Rattle.plan.specs.Arithmetic.{sum}
-use Rattle.plan.specs.Sizes.{mostRisks, mostRiskBits, mostFileBits}
-use Rattle.plan.specs.Claim.{Claim, dollars, claimAt, pastClaim, claimsFrom, pastClaims}
-use Rattle.plan.specs.Risk.{countWidth, countAt, firstClaim, claimsAt, pastRisk, countsFrom, risksFrom, pastRisks, allClaims}
+use Rattle.plan.specs.Sizes.{mostFileBits}
+use Rattle.plan.specs.Claim.{Claim, dollars, claimAt, claimsFrom, pastClaims}
+use Rattle.plan.specs.Risk.{countWidth, countAt, firstClaim, claimsAt, countsFrom, risksFrom, pastRisks, allClaims}
 use Rattle.plan.specs.Calls.{filled}
 use Rattle.plan.proofs.Sums.{sum-append}
-use Rattle.plan.proofs.Claims.{length-claims, past-more, part-in}
+use Rattle.plan.proofs.Claims.{length-claims, part-in}
 use Rattle.plan.proofs.Risks.{length-claims-at, length-counts, counts-claims, counts-more, past-risks-more, past-risks-le, sum-prefix}
 use Rattle.plan.proofs.Risks.{parts-more}
 use Rattle.plan.proofs.Filled.{filled-none, filled-more, filled-run}

@@ -2,10 +2,10 @@
 -- the first n counts and the first so many claims and bits, Write makes the same bytes of in the edition that Read gave; what Write made,
 -- Read gives back; and two accepted files with the same values and edition are the same bytes. Each joins what the calls say by plan's
 -- round trips. Assumes nothing.
-use mathlib.Core.Path.{_≡_, refl, sym, ap, ap₂, _∙_, subst}
+use mathlib.Core.Path.{_≡_, sym, ap, _∙_, subst}
 use mathlib.Core.List.{List, [], _∷_}
 use Prim.Native.Nat.{ℕ, _≤_}
-use lib.ListN.{length, take, drop}
+use lib.ListN.{length, take}
 use Rattle.plan.specs.Arithmetic.{sum}
 use Rattle.plan.specs.File.{Group, groupOf}
 use Rattle.plan.specs.Questions.{firstNo, fileQuestions, question13, readEnough, readQuestions}

@@ -131,7 +131,7 @@ pub(crate) fn values_fit(
 
 // ---- question 19
 
-// Whether a risk's first claim has the bit 0, as a risk without claims has.
+// Whether a risk's first claim has the bit 0; a risk without claims passes.
 fn risk_opens(joined: &[u8]) -> bool
     ensures { λ r. ⌜ OpensSays (now (joined .entry)) r ⌝ }
 {

@@ -1,7 +1,7 @@
 -- The invariant: the claims passed are stored, their dollars in the one buffer and their bits in the other, and the place is where they
 -- end. The measure is the claims to come. Assumes nothing.
 use mathlib.Core.Path.{_≡_, refl, sym, ap, _∙_}
-use Prim.Native.Nat.{ℕ, _+_, _-_, _≤_, _<_}
+use Prim.Native.Nat.{_+_, _-_, _≤_, _<_}
 use mathlib.Core.List.{map}
 use native.Mathlib.Omega.{arith}
 use borrow.Author.Needs.{needs}

@@ -1,5 +1,4 @@
 -- The width of either field. Assumes nothing.
-use mathlib.Core.Path.{sym, _∙_}
 use native.Mathlib.Omega.{arith}
 use borrow.Author.Needs.{needs}
 use Rattle.plan.proofs.Claims.{joined-width-le, width-is}

@@ -2,10 +2,9 @@
 use mathlib.Core.Path.{_≡_, sym, ap, _∙_, subst}
 use mathlib.Core.Bool.{Bool, cond}
 use Prim.Native.Nat.{ℕ, _+_}
-use native.Mathlib.Omega.{arith}
 use borrow.Author.Needs.{needs}
 use borrow.Author.Tests.{eq-eqb, ne-eqb}
-use lib.Dec.{lit≤, eqb}
+use lib.Dec.{eqb}
 use Rattle.plan.specs.Claim.{claimWidth, dollarsWidth}
 use Rattle.plan.proofs.Claims.{width-is}
 use Rattle.bits.specs.Take.{Took}

@@ -1,8 +1,7 @@
 -- One bit in edition 2, none in any other. Assumes nothing.
-use mathlib.Core.Path.{_≡_, sym, ap}
+use mathlib.Core.Path.{sym, ap}
 use mathlib.Core.Bool.{Bool, cond}
 use borrow.Author.Tests.{eq-eqb, ne-eqb}
-use Prim.Native.Nat.{ℕ}
 use Rattle.claims.proofs.claim.joined_width.Statement.{statement}
 use Rattle.claims.proofs.claim.joined_width.Tie as tie
 

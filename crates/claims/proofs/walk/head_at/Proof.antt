@@ -1,16 +1,13 @@
 -- The count, and the bit behind it, are on the front of one word. Assumes nothing.
 use mathlib.Core.Path.{_≡_, sym, ap, ap₂, _∙_}
-use mathlib.Core.Bool.{Bool, true, cond}
-use Prim.Native.Nat.{ℕ, _+_}
-use native.Mathlib.Omega.{arith}
+use mathlib.Core.Bool.{Bool, cond}
 use borrow.Author.Needs.{needs}
 use borrow.Author.Tests.{eq-eqb, ne-eqb}
 use lib.Dec.{eqb, lit≤}
 use Rattle.plan.specs.Field.{field}
 use Rattle.plan.specs.Header.{editionOf}
-use Rattle.plan.specs.Claim.{joined, joinedWidth, claimAt, claimsFrom}
+use Rattle.plan.specs.Claim.{joined, joinedWidth, claimAt}
 use Rattle.plan.specs.Risk.{countWidth, countAt, firstClaim}
-use Rattle.plan.specs.Accidents.{opens}
 use Rattle.plan.proofs.Claims.{joined-at}
 use Rattle.plan.proofs.Risks.{first-claim}
 use Rattle.bits.proofs.Fronts.{front-is, front-part}

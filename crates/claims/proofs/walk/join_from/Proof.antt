@@ -1,5 +1,5 @@
 -- The claim is the two parts of the word. Assumes nothing.
-use mathlib.Core.Path.{_≡_, subst₂}
+use mathlib.Core.Path.{subst₂}
 use Prim.Native.Nat.{ℕ}
 use borrow.Author.Needs.{needs}
 use Rattle.plan.specs.Claim.{claim}

@@ -1,6 +1,5 @@
 -- The invariant: the sums so far are those of the first 2 × i claims, and the place is where they end. The measure is the pairs
--- to come. A turn takes the word from there on, and adds the claim on its front and, after a shift, the one behind it. Assumes
--- nothing.
+-- to come. A turn takes the word from there on, and adds both claims that are on its front. Assumes nothing.
 use mathlib.Core.Path.{_≡_, refl, sym, _∙_, subst}
 use Prim.Native.Nat.{ℕ, _+_, _-_, _*_, _/_, _≤_, _<_}
 use native.Mathlib.Omega.{arith}

@@ -1,5 +1,5 @@
 -- `claims::walk::limited_to` meets its contract: no limit, or the lesser of the two. Assumes nothing.
-use mathlib.Core.Path.{_≡_, refl, sym, ap, _∙_}
+use mathlib.Core.Path.{_≡_, refl, _∙_}
 use Prim.Native.Nat.{ℕ, zero, suc, min}
 use borrow.Author.Needs.{needs}
 use Rattle.plan.specs.Losses.{limitedTo}

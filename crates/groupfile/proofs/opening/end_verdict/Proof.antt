@@ -8,7 +8,7 @@ use borrow.Author.Tests.{eq-eqb, ne-eqb, not-true, not-false}
 use lib.ListN.{length}
 use Rattle.plan.specs.Sizes.{mostFileBits}
 use Rattle.plan.specs.Field.{field, bytesFor}
-use Rattle.plan.specs.File.{risksOf, endOf, fillOf}
+use Rattle.plan.specs.File.{risksOf, fillOf}
 use Rattle.plan.specs.Questions.{Question, firstNo, question9, question19, endQuestions}
 use Rattle.plan.proofs.FileSizes.{end-le}
 use Rattle.plan.proofs.Questions.{goes-on, stops}
