@@ -58,16 +58,24 @@ fn generated_files() {
     let seed = setting("RETRO_SEED", SEED);
     say(&format!("comparison: {files} files, seed {seed}"));
     let start = Instant::now();
+    let cut = AtomicU64::new(0);
     let counts = compare_in_threads(files, seed, |held_calls, random| {
         let file = random.file();
-        compare_file(held_calls, random, &file);
+        if compare_file(held_calls, random, &file) && cut_by_accident(&file) {
+            cut.fetch_add(1, Ordering::Relaxed);
+        }
         compare_values(held_calls, random);
     });
+    let cut = cut.into_inner();
     say(&counts.lines(&CALLS));
     say(&format!(
-        "comparison: no difference, {:.1} s",
+        "comparison: no difference, {cut} rated files with an A that the bits change, {:.1} s",
         start.elapsed().as_secs_f64()
     ));
+    assert!(
+        cut >= LEAST,
+        "{cut} rated files with an A that the bits change"
+    );
     let rare = counts.rarer_than(LEAST, &CALLS);
     assert!(rare.is_empty(), "fewer than {LEAST} times: {rare:?}");
     for call in CALLS {
@@ -158,10 +166,10 @@ fn compare_batches(
     }
 }
 
-/// Rate, Table and Read of a file, and Write of what Read gives.
-fn compare_file(held_calls: &mut HeldCalls, random: &mut Random, file: &[u8]) {
+/// Rate, Table and Read of a file, and Write of what Read gives. Gives whether Rate accepted it.
+fn compare_file(held_calls: &mut HeldCalls, random: &mut Random, file: &[u8]) -> bool {
     let (risks, claims) = sizes(file);
-    held_calls.rate(file, random.room(4 * risks));
+    let rated = held_calls.rate(file, random.room(4 * risks)) == 0;
     held_calls.table(file, random.entry_ratio());
     let counts_room = random.room(risks);
     let claims_room = random.room(claims);
@@ -169,6 +177,19 @@ fn compare_file(held_calls: &mut HeldCalls, random: &mut Random, file: &[u8]) {
     if held_calls.read(file, counts_room, claims_room, joined_room) == 0 {
         held_calls.write_back(file);
     }
+    rated
+}
+
+/// Whether the limit leaves another sum of the accidents than of the single claims.
+fn cut_by_accident(file: &[u8]) -> bool {
+    let Ok(group) = second_rater::read(file, usize::MAX, usize::MAX, usize::MAX) else {
+        return false;
+    };
+    let sample = Sample::of(&group);
+    let limit = u64::from(sample.header.loss_limit);
+    let limited = |sums: Vec<u64>| sums.iter().map(|&sum| sum.min(limit)).sum::<u64>();
+    let claims = sample.claims().iter().copied().map(u64::from).collect();
+    limit > 0 && limited(sample.accidents().concat()) != limited(claims)
 }
 
 /// Write of values that may be sound or not, and Read of what Write gives.

@@ -370,7 +370,7 @@ accidentsFile =
     ∷ 1 ∷ 119 ∷ 0 ∷ 15 ∷ 160 ∷ 12 ∷ 1 ∷ 119 ∷ 16 ∷ 15 ∷ 160 ∷ 0 ∷ 31 ∷ 64 ∷ 96 ∷ 3 ∷ 232 ∷ 128 ∷ 125 ∷ 0 ∷ 2 ∷ 238 ∷ 0
     ∷ []
 
--- two risks of one claim, the second with its bit set: it would run on from the first risk. The same with a fill bit set
+-- two risks of one claim, the second with its bit set, as if it belonged to the first risk's accident. The same with a fill bit set
 abbrev leading : Group
 leading = joining scaffoldHeader (1 ∷ 1 ∷ []) (3000 ∷ 4000 ∷ []) (0 ∷ 1 ∷ [])
 
@@ -418,6 +418,7 @@ AccidentsCase =
     -- (3,000, 4,000 joined), 1,000 has A 6,000, and (1,000, 4,000 joined), 3,000 has 8,000
     × Written accidents accidentsFile
     × (limiteds accidentsFile ≡ 5000 ∷ 7000 ∷ 6000 ∷ 8000 ∷ [])
+    × (rate accidentsFile 16 ≡ rates 4 (pos 5000000) 4400000 38000 (7850 ∷ 10050 ∷ 8950 ∷ 11150 ∷ []))
     × (accidentsOf (claim 0 3000 ∷ claim 1 4000 ∷ claim 0 1000 ∷ []) ≡ 7000 ∷ 1000 ∷ [])
     × (accidentsOf (claim 0 1000 ∷ claim 1 4000 ∷ claim 0 3000 ∷ []) ≡ 5000 ∷ 3000 ∷ [])
     -- an accident of 0 dollars exists; a claim may join with 0 dollars
@@ -456,6 +457,7 @@ AccidentsCase =
 accidentsCase : AccidentsCase
 unfolding bytesOf number bit field claimWidth claimAt pastClaim slotsOfClaim countAt firstClaim limitedOf LG LH SX SS ratable basicPremium excessCharge nearest billRounding billWith ratedOf rate totalWith taxedExpensesAndLosses table read write compare
 accidentsCase = (
+  refl,
   refl,
   refl,
   refl,

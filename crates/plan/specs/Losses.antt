@@ -1,6 +1,7 @@
 -- Step 1: 'L is a risk's sum of claims. A is its sum of the lesser of each claim and the loss limit; without a limit A = L.
 -- SL and SA are their sums over the group.' Since document 02, job 4, 'The limit applies to the accident's sum'; in edition 1 each
--- claim is its own accident, so there A is as document 01 has it (`FirstEdition.limited-as-it-was`). All later steps speak of the header and of the list of losses only.
+-- claim is its own accident, so there A is as document 01 has it (`FirstEdition.limited-as-it-was`). All later steps speak of the
+-- header and of the list of losses only.
 use mathlib.Core.List.{List, map}
 use Prim.Native.Nat.{ℕ, zero, suc, min}
 use lib.ListN.{take}

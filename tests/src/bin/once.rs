@@ -4,8 +4,8 @@
 //!
 //! `once CALL [JOINED] [RISKS [CLAIMS]]`: RISKS risks of CLAIMS claims each; where they are not
 //! given, 255 risks of 63 claims, the largest files of `bench`. With JOINED the same claims in
-//! edition 2, of which none, about a quarter or about half belong to the accident of the claim
-//! before. Exit status: 0; 2 for wrong usage.
+//! edition 2, of which none, about a twentieth, about a quarter or about half belong to the
+//! accident of the claim before. Exit status: 0; 2 for wrong usage.
 //!
 //! The tuned peers are compiled for this machine. Those with vectors may have instructions that
 //! valgrind does not know, such as those of AVX-512; `objdump -d` shows their loops.
