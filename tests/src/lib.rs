@@ -2,6 +2,7 @@
 //!
 //! - `calls`: the five exported calls of target/staticlib/libretro_c.a.
 //! - `second_rater`: the second rater, written from documents 01 and 02 alone.
+//! - `charges_1965`: the charges of the 1965 table, from document 02 and source document 003 alone.
 //! - `straightforward`: a rater for Rate alone, the benchmark's baseline.
 //! - `peers`: the tuned rater, reader and writer in C that the benchmark measures beside the calls.
 //! - `desk`: the benchmark's groups and buffers, and the calls on them.
@@ -12,6 +13,7 @@
 //!   rater in it.
 
 pub mod calls;
+pub mod charges_1965;
 pub mod desk;
 pub mod generator;
 pub mod guard;

@@ -24,6 +24,9 @@ pub mod Demand3
 pub mod Discounts
 pub mod Comparisons
 pub mod MarksAsWritten
+pub mod Columns
+pub mod RowSums
+pub mod Thousandths
 pub mod Decoded
 pub mod Writable
 pub mod RoundTrip

@@ -25,3 +25,7 @@ pub mod Bounds
 -- Document 02, job 1: guaranteed cost beside the retro premium
 pub mod Discount
 pub mod Comparison
+-- Document 02, job 5: charges of the 1965 table
+pub mod Doubles
+pub mod Matrix
+pub mod Charge

@@ -4,6 +4,7 @@ use mathlib.Core.Path.{_≡_, refl, sym, ap, _∙_, subst}
 use mathlib.Core.List.{List}
 use Prim.Native.Nat.{ℕ}
 use lib.IntN.{ℤ, pos}
+use lib.Ieee.{Float}
 use lib.ListN.{length}
 use Rattle.plan.specs.Demand3.{Demand3}
 use Rattle.plan.specs.Calls.{Answer, refused, given, giving, numberAfter, bufferAfter, Rated, rate, Demand3After, Tabled, table}
@@ -30,7 +31,11 @@ use Rattle.guaranteed.specs.Comparisons.{partsOf, partsIn, numbersGiven, Compar
 use Rattle.guaranteed.specs.Comparisons as guaranteed
 use Rattle.guaranteed.specs.declared.Comparison as comparing
 use Rattle.guaranteed.specs.declared.Compared.the-variants as compares
-use Rattle.retro_c.specs.Exported.{WriteExported, CompareExported}
+use Rattle.retro_c.specs.Exported.{WriteExported, CompareExported, ChargeExported}
+use Rattle.plan.specs.Charge.{Charged, charge1965, OnTableAfter}
+use Rattle.charges.specs.Charges.{chargedIs, OnTableGiven}
+use Rattle.charges.specs.declared.TableCharge as charging
+use Rattle.charges.specs.declared.Charged.the-variants as charges
 
 -- ---- Rate
 
@@ -203,3 +208,30 @@ module _ (s : List ℕ) (ls : List Layer) (oldPremiums : List ℕ) (oldDifferenc
 
     pub all-beside : BesideGiven (compares.Given g) s premiums differences → BesideAfter compared s (numbersGiven g) premiums differences
     all-beside b = subst (λ (a : Answer Comparison). BesideAfter a s (numbersGiven g) premiums differences) (sym (all-given .is)) b
+
+-- ---- a charge of the 1965 table
+
+module _ (column r : ℕ) where
+  pub charge-refused : (k : ℕ) (x : Float) (n : ℕ) → chargedIs (charges.Refused k) ≡ charge1965 column r
+      → ChargeExported column r k x x n n
+  charge-refused k x n e = record {
+    code-is = ap codeOf e;
+    charge-is = kept (λ (c : Charged). c .unrounded) x (sym e);
+    thousandths-are = kept (λ (c : Charged). c .inThousandths) n (sym e);
+  }
+
+  -- of a refusal nothing more is said
+  pub none-on-table : (k : ℕ) (x : Float) (n : ℕ) → chargedIs (charges.Refused k) ≡ charge1965 column r
+      → OnTableAfter (charge1965 column r) column r x n
+  none-on-table k x n e = subst (λ (a : Answer Charged). OnTableAfter a column r x n) e tt
+
+  module _ (t : charging.TableCharge) (e : chargedIs (charges.Given t) ≡ charge1965 column r) where
+    pub charge-given : (x : Float) (n : ℕ) → ChargeExported column r 0 x (t .charge) n (t .thousandths)
+    charge-given x n = record {
+      code-is = ap codeOf e;
+      charge-is = set-to (λ (c : Charged). c .unrounded) x (sym e) refl;
+      thousandths-are = set-to (λ (c : Charged). c .inThousandths) n (sym e) refl;
+    }
+
+    pub on-table : OnTableGiven (charges.Given t) column r → OnTableAfter (charge1965 column r) column r (t .charge) (t .thousandths)
+    on-table h = subst (λ (a : Answer Charged). OnTableAfter a column r (t .charge) (t .thousandths)) e h

@@ -3,12 +3,14 @@ use mathlib.Core.Path.{_≡_}
 use mathlib.Core.List.{List}
 use Prim.Native.Nat.{ℕ}
 use lib.IntN.{ℤ, pos}
+use lib.Ieee.{Float}
 use lib.ListN.{length}
 use Rattle.plan.specs.Header as plan
 use Rattle.plan.specs.File.{Group}
 use Rattle.plan.specs.Calls.{Answer, refused, given, giving, numberAfter, Rated, rate, rateBuffer, Tabled, table, readCounts, readClaims}
 use Rattle.plan.specs.Calls.{readJoined, write, writeBuffer, writeLength, bufferAfter, premiumBytes}
 use Rattle.plan.specs.Comparison.{Comparison, NumbersGiven}
+use Rattle.plan.specs.Charge.{charge1965}
 use Rattle.reading.specs.Reading.{Buffers, readWith}
 use Rattle.retro_c.specs.declared.RetroGroup.{RetroGroup}
 
@@ -114,3 +116,9 @@ pub record CompareExported (a : Answer Comparison) (oldPremiums : List ℕ) (old
   pub difference-is : after .difference ≡ numberAfter (λ c. c .difference) a (before .difference)
   pub premiums-are : premiums ≡ bufferAfter (λ c. premiumBytes (c .rated)) a oldPremiums
   pub differences-are : differences ≡ bufferAfter (λ c. c .differences) a oldDifferences
+
+-- a call of retro_charge of a column at r hundredths
+pub record ChargeExported (column r code : ℕ) (charge charge′ : Float) (thousandths thousandths′ : ℕ) : Type 0 where
+  pub code-is : code ≡ codeOf (charge1965 column r)
+  pub charge-is : charge′ ≡ numberAfter (λ c. c .unrounded) (charge1965 column r) charge
+  pub thousandths-are : thousandths′ ≡ numberAfter (λ c. c .inThousandths) (charge1965 column r) thousandths

@@ -1,5 +1,5 @@
-// The calls for C and for test programs: Rate, Table, Read, Write and guaranteed cost beside Rate, on numbers and slices, one match
-// each. What a call gives is said in include/retro.h; each contract here is an equation with documents 01 and 02, refusals included.
+// The calls for C and for test programs: Rate, Table, Read, Write, guaranteed cost beside Rate and a charge of the 1965 table, on
+// numbers and slices, one match each. What a call gives is said in include/retro.h; each contract here is an equation with documents 01 and 02, refusals included.
 ghost use mathlib.Core.Path.{_≡_};
 ghost use lib.ListN.{length};
 ghost use Rattle.plan.specs.Calls.{rate, Demand3After};
@@ -7,9 +7,11 @@ ghost use Rattle.reading.specs.Reading.{buffers};
 ghost use Rattle.writing.specs.Writer.{givenGroup};
 ghost use Rattle.plan.specs.Comparison as plan;
 ghost use Rattle.plan.specs.Comparison.{BesideAfter};
+ghost use Rattle.plan.specs.Charge.{charge1965, OnTableAfter};
 ghost use Rattle.discount.specs.Schedules.{layersOf};
 ghost use Rattle.retro_c.specs.Exported.{numbers, RateExported, TableExported, ReadExported, WriteExported};
-ghost use Rattle.retro_c.specs.Exported.{lent, CompareExported};
+ghost use Rattle.retro_c.specs.Exported.{lent, CompareExported, ChargeExported};
+use charges::Charged;
 use discount::schedule::Schedule;
 use group::Header;
 use guaranteed::Compared;
@@ -209,6 +211,32 @@ pub extern "C" fn retro_guaranteed(
             *discount = g.discount;
             *guaranteed = g.guaranteed;
             *difference = total;
+            0
+        }
+    }
+}
+
+// A charge of the 1965 table: 0, the charge and its thousandths; or the number of the first question that failed.
+#[no_mangle]
+pub extern "C" fn retro_charge(
+    column: u32,
+    entry_ratio: u32,
+    charge: &mut f64,
+    thousandths: &mut u32,
+) -> u32
+    ensures says { λ code. ⌜
+        ChargeExported column «entry_ratio» code
+        (now (charge .entry)) (now (charge .exit)) (now (thousandths .entry)) (now (thousandths .exit))
+        ⌝ }
+    ensures table { λ code. ⌜
+        OnTableAfter (charge1965 column «entry_ratio») column «entry_ratio» (now (charge .exit)) (now (thousandths .exit))
+        ⌝ }
+{
+    match charges::charge(column, entry_ratio) {
+        Charged::Refused(k) => k,
+        Charged::Given(t) => {
+            *charge = t.charge;
+            *thousandths = t.thousandths;
             0
         }
     }

@@ -1,0 +1,239 @@
+// Charges of the 1965 table: the charge of a column at an entry ratio by formula (3) of document 003, in doubles, and its thousandths.
+ghost use mathlib.Core.Path.{_≡_};
+ghost use Prim.Native.Nat.{_<_, _≤_};
+ghost use Rattle.plan.specs.Matrix.{firstColumn, lastColumn, coefficients};
+ghost use Rattle.plan.specs.Charge as plan;
+ghost use Rattle.plan.specs.Charge.{coefficientDouble, chargeDouble, lastRatio};
+ghost use Rattle.charges.specs.Charges.{ChargeIs, chargedIs, OnTableGiven};
+use std::num::truncating_f64_to_u64;
+
+// The columns of the table, in hundredths, and the largest entry ratio, in hundredths.
+pub const FIRST_COLUMN: u32 = 36;
+pub const LAST_COLUMN: u32 = 52;
+pub const LAST_RATIO: u32 = 500;
+
+// Exhibit H of document 003: the coefficients b2 to b8 of each column, in ten-millionths.
+const MATRIX: [i32; 119] = [
+    // .36
+    6988077,
+    1534788,
+    -2401878,
+    2446196,
+    -935920,
+    156192,
+    -9676,
+    // .37
+    6699527,
+    362174,
+    -1052290,
+    1558492,
+    -643880,
+    109835,
+    -6831,
+    // .38
+    6373082,
+    -619243,
+    65091,
+    850057,
+    -426207,
+    78055,
+    -5046,
+    // .39
+    6000823,
+    -1393633,
+    963798,
+    270763,
+    -250111,
+    53088,
+    -3703,
+    // .40
+    5578036,
+    -1952433,
+    1636623,
+    -183729,
+    -108692,
+    32798,
+    -2603,
+    // .41
+    5105354,
+    -2297982,
+    2072574,
+    -497446,
+    -8845,
+    18417,
+    -1828,
+    // .42
+    4520075,
+    -2252639,
+    2077841,
+    -572532,
+    25717,
+    12534,
+    -1473,
+    // .43
+    3848930,
+    -1929981,
+    1803976,
+    -498168,
+    20876,
+    11522,
+    -1341,
+    // .44
+    3140541,
+    -1462885,
+    1387943,
+    -343862,
+    -6725,
+    13635,
+    -1375,
+    // .45
+    2380330,
+    -828200,
+    811232,
+    -97579,
+    -61649,
+    19723,
+    -1634,
+    // .46
+    1540083,
+    62860,
+    -37170,
+    308102,
+    -165737,
+    33337,
+    -2345,
+    // .47
+    688215,
+    1034968,
+    -973794,
+    767784,
+    -286993,
+    49637,
+    -3220,
+    // .48
+    -330425,
+    2511240,
+    -2463034,
+    1543364,
+    -502972,
+    80085,
+    -4926,
+    // .49
+    -1339706,
+    4013138,
+    -3983194,
+    2338214,
+    -725095,
+    111496,
+    -6690,
+    // .50
+    -2502708,
+    5970000,
+    -5988208,
+    3401507,
+    -1025966,
+    154505,
+    -9130,
+    // .51
+    -3651269,
+    7926783,
+    -7988756,
+    4460618,
+    -1325207,
+    197223,
+    -11549,
+    // .52
+    -4911550,
+    10191766,
+    -10283315,
+    5666651,
+    -1663803,
+    245276,
+    -14256,
+];
+
+// The charge, and its whole thousandths.
+pub struct TableCharge {
+    pub charge: f64,
+    pub thousandths: u32,
+}
+
+// What the call gives, or the number of the first question that failed.
+pub enum Charged {
+    Given(TableCharge),
+    Refused(u32),
+}
+
+// b_(i + 2) of a column.
+fn coefficient(column: usize, i: usize) -> f64
+    requires { ⌜ (firstColumn ≤ column) × (column ≤ lastColumn) × (i < coefficients) ⌝ }
+    ensures { λ b. ⌜ b ≡ coefficientDouble column i ⌝ }
+{
+    MATRIX[(column - 36) * 7 + i] as f64 / 10000000.0
+}
+
+// The charge of a column at r hundredths.
+fn unrounded(column: usize, hundredths: u32) -> f64
+    requires { ⌜ (firstColumn ≤ column) × (column ≤ lastColumn) ⌝ }
+    ensures { λ x. ⌜ x ≡ chargeDouble column hundredths ⌝ }
+{
+    let r = hundredths as f64 / 100.0;
+    let b2 = coefficient(column, 0);
+    let b3 = coefficient(column, 1);
+    let b4 = coefficient(column, 2);
+    let b5 = coefficient(column, 3);
+    let b6 = coefficient(column, 4);
+    let b7 = coefficient(column, 5);
+    let b8 = coefficient(column, 6);
+    1.0 / (1.0 + r + r * r * (b2 + r * (b3 + r * (b4 + r * (b5 + r * (b6 + r * (b7 + r * b8)))))))
+}
+
+// The greatest whole number from 1 to 1,000 whose double is at most y, or 0 if none is.
+fn greatest(y: f64) -> u32
+    ensures { λ n. ⌜ n ≡ plan.greatest 1000 y ⌝ }
+{
+    if 1000.0 <= y {
+        return 1000;
+    }
+    if 1.0 <= y {
+        return truncating_f64_to_u64(y) as u32;
+    }
+    0
+}
+
+// The charge of a column of the table at an entry ratio of the table.
+fn charge_at(column: usize, hundredths: u32) -> TableCharge
+    requires { ⌜ (firstColumn ≤ column) × (column ≤ lastColumn) × (hundredths ≤ lastRatio) ⌝ }
+    ensures { λ t. ⌜ ChargeIs column hundredths t ⌝ }
+{
+    let charge = unrounded(column, hundredths);
+    let n = greatest((charge + 0.0005) * 1000.0);
+    if n + 10 * hundredths < 1000 {
+        TableCharge {
+            charge,
+            thousandths: 1000 - 10 * hundredths,
+        }
+    } else {
+        TableCharge {
+            charge,
+            thousandths: n,
+        }
+    }
+}
+
+// The charge of a column at an entry ratio, both in hundredths, any numbers.
+pub fn charge(column: u32, entry_ratio: u32) -> Charged
+    ensures says { λ t. ⌜ chargedIs t ≡ plan.charge1965 column «entry_ratio» ⌝ }
+    ensures table { λ t. ⌜ OnTableGiven t column «entry_ratio» ⌝ }
+{
+    if column < FIRST_COLUMN {
+        return Charged::Refused(20);
+    }
+    if column > LAST_COLUMN {
+        return Charged::Refused(20);
+    }
+    if entry_ratio > LAST_RATIO {
+        return Charged::Refused(21);
+    }
+    Charged::Given(charge_at(column as usize, entry_ratio))
+}
