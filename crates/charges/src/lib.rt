@@ -9,7 +9,9 @@ use std::num::truncating_f64_to_u64;
 
 // The columns of the table, in hundredths, and the largest entry ratio, in hundredths.
 pub const FIRST_COLUMN: u32 = 36;
+
 pub const LAST_COLUMN: u32 = 52;
+
 pub const LAST_RATIO: u32 = 500;
 
 // Exhibit H of document 003: the coefficients b2 to b8 of each column, in ten-millionths.

@@ -1,8 +1,8 @@
 -- 'Proved cases, with the group above as the first': one list, over literal bytes, computed by the prover. Each group's bytes
 -- are also the file that its values make; one file has a fill bit set, which no values make. Values that document 01 leaves open are in docs/DECISIONS.md. Assumes nothing.
-use mathlib.Core.Path.{_≡_, refl}
+use mathlib.Core.Path.{_≡_, refl, ap, _∙_}
 use mathlib.Core.List.{List, [], _∷_, map}
-use Prim.Native.Nat.{ℕ, _*_}
+use Prim.Native.Nat.{ℕ, _*_, _-_, max}
 use lib.IntN.{ℤ, pos, negsuc}
 use lib.ListN.{length, replicate}
 use Rattle.plan.specs.Arithmetic.{nearest}
@@ -22,6 +22,10 @@ use Rattle.plan.specs.Table.{chargeSum, savingsSum, charge, savings}
 use Rattle.plan.specs.Calls.{Answer, refused, given, Rated, ratedOf, rate, Tabled, table, read, write}
 use Rattle.plan.specs.Discount.{Layer, discount, guaranteedCost}
 use Rattle.plan.specs.Comparison.{Comparison, comparisonOf, compare}
+use lib.Ieee.{binary64, ofBits, ofInt, add, mul, div}
+use Rattle.plan.specs.Questions.{passed, firstNo}
+use Rattle.plan.specs.Charge.{Charged, chargeDouble, raised, thousandths, chargeQuestions, charge1965}
+use Rattle.plan.proofs.Thousandths.{wholeUpTo, thousandths-are}
 
 -- header values: limit, P, e, c, T, kind, maximum, minimum
 abbrev header : ℕ → ℕ → ℕ → ℕ → ℕ → ℕ → ℕ → ℕ → Header
@@ -502,6 +506,75 @@ accidentsCase = (
   refl,
 )
 
+-- Document 02, job 5, on columns .36, .44 and .52 at r 0, 0.50, 1.00, 2.00 and 5.00: the double by its bits, and its thousandths
+abbrev charged : ℕ → ℕ → Answer Charged
+charged bits n = given (record { unrounded = ofBits binary64 bits; inThousandths = n })
+
+charge-gives : (column r bits n : ℕ) → firstNo (chargeQuestions column r) ≡ passed → chargeDouble column r ≡ ofBits binary64 bits
+    → max (wholeUpTo 1000 (raised (ofBits binary64 bits))) (1000 - 10 * r) ≡ n → charge1965 column r ≡ charged bits n
+unfolding charge1965
+charge-gives column r bits n p x m =
+    rw p (λ i. given (record {
+      unrounded = x i;
+      inThousandths = (ap (thousandths r) x ∙ thousandths-are r (ofBits binary64 bits) ∙ m) i;
+    }))
+
+abbrev ChargeCase : Type 0
+ChargeCase =
+    (charge1965 36 0 ≡ charged 0x3ff0_0000_0000_0000 1000)
+    × (charge1965 36 50 ≡ charged 0x3fe2_fd37_2565_d4a1 593)
+    × (charge1965 36 100 ≡ charged 0x3fd7_0a3d_5fa1_c62e 360)
+    × (charge1965 36 200 ≡ charged 0x3fc2_e880_2ee0_99b1 148)
+    × (charge1965 36 500 ≡ charged 0x3f9b_c3fe_663d_ef2a 27)
+    × (charge1965 44 0 ≡ charged 0x3ff0_0000_0000_0000 1000)
+    × (charge1965 44 50 ≡ charged 0x3fe4_6910_d877_b7c6 638)
+    × (charge1965 44 100 ≡ charged 0x3fdc_28f5_d1ad_a41b 440)
+    × (charge1965 44 200 ≡ charged 0x3fcd_bff4_5003_b341 232)
+    × (charge1965 44 500 ≡ charged 0x3fad_d66e_e611_f8ed 58)
+    × (charge1965 52 0 ≡ charged 0x3ff0_0000_0000_0000 1000)
+    × (charge1965 52 50 ≡ charged 0x3fe5_fbcb_894c_833a 687)
+    × (charge1965 52 100 ≡ charged 0x3fe0_a3d7_0d97_0f20 520)
+    × (charge1965 52 200 ≡ charged 0x3fd5_5e6d_c7ff_f9b1 334)
+    × (charge1965 52 500 ≡ charged 0x3fbc_cb09_fcbc_ad4b 112)
+    -- here every other order of the operations that was tried gives another double
+    × (charge1965 50 332 ≡ charged 0x3fc6_8702_7cde_7b61 176)
+    × (charge1965 51 357 ≡ charged 0x3fc5_f5cd_f127_b983 172)
+    -- 'Errors: 20 a column outside .36 to .52, then 21 an entry ratio above 5.00'
+    × (charge1965 35 100 ≡ refused 20)
+    × (charge1965 53 100 ≡ refused 20)
+    × (charge1965 36 501 ≡ refused 21)
+    × (charge1965 52 501 ≡ refused 21)
+    × (charge1965 53 501 ≡ refused 20)
+    × (charge1965 0 4294967295 ≡ refused 20)
+
+chargeCase : ChargeCase
+unfolding chargeDouble charge1965 add mul div ofInt ofBits
+chargeCase = (
+  charge-gives 36 0 0x3ff0_0000_0000_0000 1000 refl refl refl,
+  charge-gives 36 50 0x3fe2_fd37_2565_d4a1 593 refl refl refl,
+  charge-gives 36 100 0x3fd7_0a3d_5fa1_c62e 360 refl refl refl,
+  charge-gives 36 200 0x3fc2_e880_2ee0_99b1 148 refl refl refl,
+  charge-gives 36 500 0x3f9b_c3fe_663d_ef2a 27 refl refl refl,
+  charge-gives 44 0 0x3ff0_0000_0000_0000 1000 refl refl refl,
+  charge-gives 44 50 0x3fe4_6910_d877_b7c6 638 refl refl refl,
+  charge-gives 44 100 0x3fdc_28f5_d1ad_a41b 440 refl refl refl,
+  charge-gives 44 200 0x3fcd_bff4_5003_b341 232 refl refl refl,
+  charge-gives 44 500 0x3fad_d66e_e611_f8ed 58 refl refl refl,
+  charge-gives 52 0 0x3ff0_0000_0000_0000 1000 refl refl refl,
+  charge-gives 52 50 0x3fe5_fbcb_894c_833a 687 refl refl refl,
+  charge-gives 52 100 0x3fe0_a3d7_0d97_0f20 520 refl refl refl,
+  charge-gives 52 200 0x3fd5_5e6d_c7ff_f9b1 334 refl refl refl,
+  charge-gives 52 500 0x3fbc_cb09_fcbc_ad4b 112 refl refl refl,
+  charge-gives 50 332 0x3fc6_8702_7cde_7b61 176 refl refl refl,
+  charge-gives 51 357 0x3fc5_f5cd_f127_b983 172 refl refl refl,
+  refl,
+  refl,
+  refl,
+  refl,
+  refl,
+  refl,
+)
+
 -- all of them: 'gathered as one checked list'
-pub provedCases : FourCase × TableCase × OtherCases × GuaranteedCase × MarksCase × SumsCase × AccidentsCase
-provedCases = (fourCase, tableCase, otherCases, guaranteedCase, marksCase, sumsCase, accidentsCase)
+pub provedCases : FourCase × TableCase × OtherCases × GuaranteedCase × MarksCase × SumsCase × AccidentsCase × ChargeCase
+provedCases = (fourCase, tableCase, otherCases, guaranteedCase, marksCase, sumsCase, accidentsCase, chargeCase)

@@ -56,8 +56,8 @@ module _ (m : ℕ) (e : ℤ) where
   at-most-no : (x : Float) (k : ℕ) → HasValue x false k 1 → T (not (atMost x (fin false m e))) → wholePart m e < k
   at-most-no x k v t =
       lt-of-not-le (λ (g : k ≤ wholePart m e).
-        let crossed : k * down e ≤ m * up e * 1 = le-trans (le-div-iff-mul-le (down-pos e) .0 g) (le-of-eq (sym (mul-one (m * up e)))) in
-        T-not (atMost x (fin false m e)) t (le-of-values x (fin false m e) k 1 (m * up e) (down e) (lit< tt) (down-pos e) v (refl, refl) crossed))
+      let crossed : k * down e ≤ m * up e * 1 = le-trans (le-div-iff-mul-le (down-pos e) .0 g) (le-of-eq (sym (mul-one (m * up e)))) in
+      T-not (atMost x (fin false m e)) t (le-of-values x (fin false m e) k 1 (m * up e) (down e) (lit< tt) (down-pos e) v (refl, refl) crossed))
 
 -- the doubles at most which no number above 0 is
 abbrev low : Float → Bool

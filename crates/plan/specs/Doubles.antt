@@ -17,7 +17,6 @@ x /ᵈ y = div binary64 x y
 infixl 6 _+ᵈ_
 infixl 7 _*ᵈ_
 infixl 7 _/ᵈ_
-
 -- a whole number as a double
 abbrev pub double : ℤ → Float
 double z = ofInt binary64 z

@@ -1,8 +1,9 @@
 -- `charges::charge_at` meets its contract: the thousandths of the charge, and 1 − r where they are below it. Assumes nothing.
 use borrow.Author.Needs.{needs}
 use native.Mathlib.Omega.{arith}
-use mathlib.Core.Path.{_≡_, sym, subst}
+use mathlib.Core.Path.{_≡_, sym, _∙_, subst}
 use Prim.Native.Nat.{ℕ, _≤_}
+use Rattle.plan.specs.Doubles.{_+ᵈ_, _*ᵈ_}
 use Rattle.plan.specs.Charge.{chargeDouble, greatest, raised, thousandths}
 use Rattle.plan.proofs.Thousandths.{greatest-most}
 use Rattle.charges.proofs.Literals.{half-thousandth, thousand}
@@ -12,7 +13,9 @@ use Rattle.charges.proofs.charge_at.Tie as tie
 module _ (c : tie.After-greatest) where
   -- what the call of `greatest` gives, in the definitions' words
   given : c .greatest .result ≡ greatest 1000 (raised (chargeDouble (c .before .before .args .column) (c .before .before .args .hundredths)))
-  given = cc (half-thousandth, thousand)
+  given =
+      let x = c .before .unrounded .ensures in
+      c .greatest .ensures ∙ (λ i. greatest 1000 ((x i +ᵈ half-thousandth i) *ᵈ thousand i))
 
   at-most : c .greatest .result ≤ 1000
   at-most = subst (λ (n : ℕ). n ≤ 1000) (sym given) (greatest-most 1000 _)

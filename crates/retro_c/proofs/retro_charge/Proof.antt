@@ -36,7 +36,7 @@ returns-2 c =
     let says = sym (ap chargedIs e) ∙ r .charge .ensures .0 in (
       charge-given (a .column) (a .entry-ratio) t says (a .charge .now) (a .thousandths .now),
       on-table (a .column) (a .entry-ratio) t says
-      (subst (λ (x : Charged). OnTableGiven x (a .column) (a .entry-ratio)) e (r .charge .ensures .1)),
+          (subst (λ (x : Charged). OnTableGiven x (a .column) (a .entry-ratio)) e (r .charge .ensures .1)),
     )
 
 pub retro-charge-spec : {M : Type 1} → statement M
