@@ -1,8 +1,9 @@
 // Charges of the 1965 table: the charge of a column at an entry ratio by formula (3) of document 003, in doubles, and its thousandths.
 ghost use mathlib.Core.Path.{_≡_};
 ghost use Prim.Native.Nat.{_<_, _≤_};
+ghost use Rattle.plan.specs.Matrix as plan;
 ghost use Rattle.plan.specs.Matrix.{firstColumn, lastColumn, coefficients};
-ghost use Rattle.plan.specs.Charge as plan;
+ghost use Rattle.plan.specs.Charge as table;
 ghost use Rattle.plan.specs.Charge.{coefficientDouble, chargeDouble, lastRatio};
 ghost use Rattle.charges.specs.Charges.{ChargeIs, chargedIs, OnTableGiven};
 use std::num::truncating_f64_to_u64;
@@ -166,12 +167,20 @@ pub enum Charged {
     Refused(u32),
 }
 
+// b_(i + 2) of a column, in ten-millionths.
+fn ten_millionths(column: usize, i: usize) -> i32
+    requires { ⌜ (firstColumn ≤ column) × (column ≤ lastColumn) × (i < coefficients) ⌝ }
+    ensures { λ b. ⌜ b ≡ plan.coefficient column i ⌝ }
+{
+    MATRIX[(column - 36) * 7 + i]
+}
+
 // b_(i + 2) of a column.
 fn coefficient(column: usize, i: usize) -> f64
     requires { ⌜ (firstColumn ≤ column) × (column ≤ lastColumn) × (i < coefficients) ⌝ }
     ensures { λ b. ⌜ b ≡ coefficientDouble column i ⌝ }
 {
-    MATRIX[(column - 36) * 7 + i] as f64 / 10000000.0
+    ten_millionths(column, i) as f64 / 10000000.0
 }
 
 // The charge of a column at r hundredths.
@@ -192,7 +201,7 @@ fn unrounded(column: usize, hundredths: u32) -> f64
 
 // The greatest whole number from 1 to 1,000 whose double is at most y, or 0 if none is.
 fn greatest(y: f64) -> u32
-    ensures { λ n. ⌜ n ≡ plan.greatest 1000 y ⌝ }
+    ensures { λ n. ⌜ n ≡ table.greatest 1000 y ⌝ }
 {
     if 1000.0 <= y {
         return 1000;
@@ -225,7 +234,7 @@ fn charge_at(column: usize, hundredths: u32) -> TableCharge
 
 // The charge of a column at an entry ratio, both in hundredths, any numbers.
 pub fn charge(column: u32, entry_ratio: u32) -> Charged
-    ensures says { λ t. ⌜ chargedIs t ≡ plan.charge1965 column «entry_ratio» ⌝ }
+    ensures says { λ t. ⌜ chargedIs t ≡ table.charge1965 column «entry_ratio» ⌝ }
     ensures table { λ t. ⌜ OnTableGiven t column «entry_ratio» ⌝ }
 {
     if column < FIRST_COLUMN {
