@@ -1,45 +1,46 @@
--- The test of a column: at each entry ratio below n hundredths its charge is within a millionth of the exact quotient. Assumes nothing.
-use Prim.Native.Nat.{ℕ, _*_, _<_, _≤_}
-use mathlib.Core.Bool.{Bool, true, false, _&&_}
-use lib.Dec.{T, ltb, leb, ltb→lt, leb→le}
-use lib.IntN.{ℤ, pos, negsuc}
-use lib.Ieee.{Float, nan, inf, fin, up, down}
-use lib.Ieee.Fits.{and-l, and-r}
-use Rattle.plan.specs.Charge.{nested, coefficientDouble, ratioDouble, chargeDouble, exactNumerator, exactDenominator, apart, Within}
-use Rattle.plan.proofs.Columns.{passes, at}
+-- Two facts of the matrix, computed at every column: each coefficient is at most 2 in size, and the denominator is at least 1 at every
+-- entry ratio. What is added to 1 in the denominator is r × (1 + r × (gives − takes)), so the test is r × takes ≤ 1 + r × gives, with
+-- both sides times 10 ^ 21. Assumes nothing.
+use Prim.Native.Nat.{ℕ, _+_, _*_, _^_, _≤_, _<_}
+use mathlib.Core.Bool.{Bool}
+use mathlib.Core.List.{List, [], _∷_}
+use native.Mathlib.Omega.{arith}
+use lib.IntN.{ℤ, pos, natAbs}
+use lib.Dec.{T, leb, leb→le}
+use lib.ListN.{getD}
+use Rattle.plan.specs.Matrix.{firstColumn, lastColumn, coefficient}
+use Rattle.plan.specs.Charge.{lastRatio}
+use Rattle.plan.proofs.Columns.{passes, at, atColumns, at-column}
+use Rattle.within.proofs.Formula.{gives, takes, Fits}
 
--- `Within` as a test
-abbrev near : Float → ℕ → ℤ → Bool
-near nan num den = false
-near (inf s) num den = false
-near (fin true m e) num den = false
-near (fin false m e) num (negsuc den) = false
-near (fin false m e) num (pos den) = ltb 0 den && leb (apart (m * up e * den) (num * down e) * 1000000) (den * down e)
+-- ---- the coefficients' sizes
+abbrev small : ℕ → ℕ → Bool
+small column i = leb (natAbs (coefficient column i)) 20000000
 
-near-means : (x : Float) (num : ℕ) (den : ℤ) → T (near x num den) → Within x num den
-near-means nan num den t = t
-near-means (inf s) num den t = t
-near-means (fin true m e) num den t = t
-near-means (fin false m e) num (negsuc den) t = t
-near-means (fin false m e) num (pos den) t =
-    let most = leb (apart (m * up e * den) (num * down e) * 1000000) (den * down e) in
-    (ltb→lt 0 den (and-l (ltb 0 den) most t), leb→le _ _ (and-r (ltb 0 den) most t))
+all-small : T (atColumns (λ (column : ℕ). passes (small column) 7))
+all-small = tt
 
--- the column's doubles are bound once, so that they are computed once
-unfoldable pub tests : ℕ → ℕ → Bool
-unfolding nested
-tests column n =
-    let b2 = coefficientDouble column 0 in
-    let b3 = coefficientDouble column 1 in
-    let b4 = coefficientDouble column 2 in
-    let b5 = coefficientDouble column 3 in
-    let b6 = coefficientDouble column 4 in
-    let b7 = coefficientDouble column 5 in
-    let b8 = coefficientDouble column 6 in
-    passes (λ r. near (nested b2 b3 b4 b5 b6 b7 b8 (ratioDouble r)) exactNumerator (exactDenominator column r)) n
+pub fits : (column : ℕ) → firstColumn ≤ column → column ≤ lastColumn → (i : ℕ) → i < 7 → Fits (coefficient column i)
+fits column h k i l =
+    leb→le (natAbs (coefficient column i)) 20000000
+    (at (small column) 7 (at-column (λ (c : ℕ). passes (small c) 7) all-small column h k) i l)
 
-pub means : (column n : ℕ) → T (tests column n) → (r : ℕ) → r < n → Within (chargeDouble column r) exactNumerator (exactDenominator column r)
-unfolding tests chargeDouble
-means column n t r l =
-    near-means (chargeDouble column r) exactNumerator (exactDenominator column r)
-    (at (λ k. near (chargeDouble column k) exactNumerator (exactDenominator column k)) n t r l)
+-- ---- the denominator
+abbrev enoughAt : (ℕ → ℤ) → ℕ → Bool
+enoughAt b r = leb (r * takes b r) (10 ^ 21 + r * gives b r)
+
+-- the column's coefficients are bound once, so that antt looks them up once
+abbrev enoughBelow : ℕ → ℕ → Bool
+enoughBelow n column =
+    let b : ℕ → ℤ = coefficient column in
+    let row : List ℤ = b 0 ∷ b 1 ∷ b 2 ∷ b 3 ∷ b 4 ∷ b 5 ∷ b 6 ∷ [] in
+    passes (enoughAt (λ (i : ℕ). getD row i (pos 0))) n
+
+all-enough : T (atColumns (enoughBelow 501))
+all-enough = tt
+
+pub enough : (column r : ℕ) → firstColumn ≤ column → column ≤ lastColumn → r ≤ lastRatio
+    → r * takes (coefficient column) r ≤ 10 ^ 21 + r * gives (coefficient column) r
+enough column r h k l =
+    leb→le (r * takes (coefficient column) r) (10 ^ 21 + r * gives (coefficient column) r)
+    (at (enoughAt (coefficient column)) 501 (at-column (enoughBelow 501) all-enough column h k) r (omega arith))

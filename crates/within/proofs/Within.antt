@@ -1,47 +1,61 @@
--- The charge is within a millionth of the exact quotient at every column and every entry ratio of the table. Assumes nothing.
-use Prim.Native.Nat.{ℕ, suc, _+_, _-_, _<_, _≤_}
-use mathlib.Core.Path.{_≡_, sym, subst}
-use mathlib.Core.Logic.{inl, inr}
-use native.Mathlib.Nat.{not-suc-le-zero, le-of-suc-le-suc, eq-or-lt-of-le}
+-- Document 02, job 5: 'The unrounded one lies within a millionth of the exact quotient', at every column and entry ratio of the table: the
+-- denominator's double is near the exact denominator, which is at least 1, and so is the quotient. Assumes nothing.
+use Prim.Native.Nat.{ℕ, _+_, _-_, _*_, _^_, _≤_}
+use mathlib.Core.Path.{subst}
+use native.Mathlib.Nat.{mul-le-mul-right}
 use native.Mathlib.Omega.{arith}
-use lib.Dec.{T}
-use Rattle.plan.specs.Matrix.{firstColumn, lastColumn}
-use Rattle.plan.specs.Charge.{chargeDouble, exactNumerator, exactDenominator, lastRatio, Within}
-use Rattle.within.proofs.Sweep.{tests, means}
-use Rattle.within.proofs.Swept as swept
+use lib.IntN.{ℤ, pos, _*ℤ_, *ℤ-comm}
+use lib.Dec.{lit<, lit≤}
+use Rattle.plan.specs.Matrix.{firstColumn, lastColumn, coefficient}
+use Rattle.plan.specs.Charge.{chargeDouble, exactNumerator, exactStep, exactSum, exactDenominator, Within, lastRatio}
+use Rattle.plan.proofs.Differences.{Differs, over, under, of-pos, of-self, of-add, of-scale, same}
+use Rattle.within.proofs.Formula.{gives, takes, denominator-near}
+use Rattle.within.proofs.Charge.{charge-within}
+use Rattle.within.proofs.Sweep.{fits, enough}
 
-rest : (P : ℕ → Type 0) (k : ℕ) → P k → ((i : ℕ) → i < k → P i) → (i : ℕ) → i < suc k → P i
-rest P k p f i h = elim (eq-or-lt-of-le (le-of-suc-le-suc h)) [ inl e ↦ subst P (sym e) p | inr l ↦ f i l ]
+-- ---- the exact denominator as a difference
+step-differs : (r k : ℕ) (b p : ℤ) {a d : ℕ} → Differs p a d
+    → Differs (exactStep r k b p) (100 ^ k * over b + r * a) (100 ^ k * under b + r * d)
+step-differs r k b p h =
+    of-add (b *ℤ pos (100 ^ k)) (pos r *ℤ p)
+    (subst (λ (z : ℤ). Differs z (100 ^ k * over b) (100 ^ k * under b)) (*ℤ-comm (pos (100 ^ k)) b) (of-scale (100 ^ k) b (of-self b)))
+    (of-scale r p h)
 
-none : (P : ℕ → Type 0) (i : ℕ) → i < 0 → P i
-none P i h = absurd (not-suc-le-zero h)
+sum-differs : (column r : ℕ) → Differs (exactSum column r) (gives (coefficient column) r) (takes (coefficient column) r)
+sum-differs column r =
+    let b : ℕ → ℤ = coefficient column in
+    let p5 = exactStep r 1 (b 5) (b 6) in
+    let p4 = exactStep r 2 (b 4) p5 in
+    let p3 = exactStep r 3 (b 3) p4 in
+    let p2 = exactStep r 4 (b 2) p3 in
+    let p1 = exactStep r 5 (b 1) p2 in
+    step-differs r 6 (b 0) p1
+    (step-differs r 5 (b 1) p2
+    (step-differs r 4 (b 2) p3
+    (step-differs r 3 (b 3) p4
+    (step-differs r 2 (b 4) p5
+    (step-differs r 1 (b 5) (b 6) (of-self (b 6)))))))
 
-abbrev Passed : ℕ → Type 0
-Passed i = T (tests (firstColumn + i) 501)
+denominator-differs : (column r : ℕ) → Differs (exactDenominator column r)
+    (10 ^ 23 + r * 10 ^ 21 + r * r * gives (coefficient column) r) (0 + r * r * takes (coefficient column) r)
+unfolding exactDenominator
+denominator-differs column r =
+    of-add (pos (10 ^ 23 + r * 10 ^ 21)) (pos (r * r) *ℤ exactSum column r) (of-pos (10 ^ 23 + r * 10 ^ 21))
+    (of-scale (r * r) (exactSum column r) (sum-differs column r))
 
-columns : (i : ℕ) → i < 17 → Passed i
-columns =
-    (rest Passed 16 swept.c52
-    (rest Passed 15 swept.c51
-    (rest Passed 14 swept.c50
-    (rest Passed 13 swept.c49
-    (rest Passed 12 swept.c48
-    (rest Passed 11 swept.c47
-    (rest Passed 10 swept.c46
-    (rest Passed 9 swept.c45
-    (rest Passed 8 swept.c44
-    (rest Passed 7 swept.c43
-    (rest Passed 6 swept.c42
-    (rest Passed 5 swept.c41
-    (rest Passed 4 swept.c40
-    (rest Passed 3 swept.c39
-    (rest Passed 2 swept.c38
-    (rest Passed 1 swept.c37
-    (rest Passed 0 swept.c36
-    (none Passed))))))))))))))))))
-
+-- ---- the law
 pub within : (column r : ℕ) → firstColumn ≤ column → column ≤ lastColumn → r ≤ lastRatio
     → Within (chargeDouble column r) exactNumerator (exactDenominator column r)
-within column r l u b =
-    let back : firstColumn + (column - firstColumn) ≡ column = omega arith in
-    means column 501 (subst (λ (n : ℕ). T (tests n 501)) back (columns (column - firstColumn) (omega arith))) r (omega arith)
+unfolding chargeDouble
+within column r h k l =
+    let b : ℕ → ℤ = coefficient column in
+    let P = 10 ^ 23 + r * 10 ^ 21 + r * r * gives b r in
+    let M = 0 + r * r * takes b r in
+    let e : 10 ^ 23 + M ≤ P = least r (gives b r) (takes b r) (enough column r h k l) in
+    subst (Within (chargeDouble column r) exactNumerator)
+    (same (pos (P - M)) (exactDenominator column r) (of-pos (P - M)) (denominator-differs column r) (omega arith))
+    (charge-within _ P M (P - M) exactNumerator 976556 10555506103 (denominator-near r l b (fits column h k)) (lit< tt) (omega arith)
+    (omega arith) (lit≤ tt))
+  where
+    least : (r a d : ℕ) → r * d ≤ 10 ^ 21 + r * a → 10 ^ 23 + (0 + r * r * d) ≤ 10 ^ 23 + r * 10 ^ 21 + r * r * a
+    least r a d g = omega (arith, mul-le-mul-right r g)
