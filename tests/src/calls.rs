@@ -248,6 +248,12 @@ pub mod raw {
             file_len: usize,
             length: *mut usize,
         ) -> u32;
+        pub fn retro_charge(
+            column: u32,
+            entry_ratio: u32,
+            charge: *mut f64,
+            thousandths: *mut u32,
+        ) -> u32;
     }
 }
 
@@ -354,6 +360,12 @@ pub fn write(
             length,
         )
     }
+}
+
+/// Charge: 0, or the number of the first question that the column or the entry ratio fails.
+pub fn charge(column: u32, entry_ratio: u32, charge: &mut f64, thousandths: &mut u32) -> u32 {
+    // SAFETY: as in `rate`.
+    unsafe { raw::retro_charge(column, entry_ratio, charge, thousandths) }
 }
 
 /// What Rate gives: n, M, Q and the sum billed, and the premiums.

@@ -41,13 +41,14 @@ pub enum Place {
 /// Both places, in each of which every slice is tried.
 pub const PLACES: [Place; 2] = [Place::PageBefore, Place::PageAfter];
 
-/// Whole numbers for which any bytes are a value.
+/// Numbers for which any bytes are a value.
 pub trait Number: Copy {}
 impl Number for u8 {}
 impl Number for u32 {}
 impl Number for u64 {}
 impl Number for i64 {}
 impl Number for usize {}
+impl Number for f64 {}
 
 /// The size of a page in bytes.
 pub fn page_size() -> usize {

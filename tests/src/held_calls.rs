@@ -1,11 +1,12 @@
-//! The exported calls held to the second rater: every number and every byte, after answers and
-//! after refusals.
+//! The exported calls held to the second rater, and Charge to `charges_1965`: every number and
+//! every byte, after answers and after refusals.
 //!
 //! Each call is made twice, with everything it is lent against the unreadable page before it and
 //! against the one after it. What is lent is preset, so that a part that must keep its contents is
 //! seen to keep them.
 
 use crate::calls::{self, Group, Lent, Numbers};
+use crate::charges_1965;
 use crate::generator::{get, EDITION};
 use crate::guard::{Guarded, PLACES};
 use crate::samples::{schedules, Values};
@@ -34,6 +35,18 @@ const NUMBERS: Numbers = Numbers {
     guaranteed: 0x7869_5a4b,
     difference: -0x1122_3344_5566_7788,
 };
+const THOUSANDTHS: u32 = 0xc0de_d00d;
+/// The bits of the doubles that Charge is lent, one after another: two numbers, −0, both
+/// infinities, and what is not a number, quiet and signalling, with bits of its own.
+const DOUBLES: [u64; 7] = [
+    0x3fe2_3456_789a_bcde,
+    0x8123_4567_89ab_cdef,
+    0x8000_0000_0000_0000,
+    0x7ff0_0000_0000_0000,
+    0xfff0_0000_0000_0000,
+    0x7ff8_0bad_cafe_f00d,
+    0xfff4_dead_beef_0001,
+];
 
 /// Byte k of a buffer before a call.
 fn preset_byte(k: usize) -> u8 {
@@ -55,7 +68,7 @@ fn preset_difference(k: usize) -> i64 {
     (k as i64).wrapping_mul(0x9e37_79b9_7f4a_7c15u64 as i64) ^ 0x0ddb_a115_dead_beef
 }
 
-/// The calls: those of document 01 in its order, then that of document 02's job 1.
+/// The calls: those of document 01 in its order, then those of document 02's jobs 1 and 5.
 #[derive(Clone, Copy, Debug, PartialEq, Eq)]
 pub enum Call {
     Rate,
@@ -63,6 +76,7 @@ pub enum Call {
     Read,
     Write,
     Guaranteed,
+    Charge,
 }
 
 /// The calls of document 01.
@@ -79,6 +93,16 @@ impl Call {
             Call::Read => &[0, 1, 2, 3, 4, 5, 6, 18, 7, 8, 9, 19, 13],
             Call::Write => &[0, 2, 3, 4, 5, 6, 18, 7, 15, 19, 13],
             Call::Guaranteed => &[0, 1, 2, 3, 4, 5, 6, 18, 7, 8, 9, 19, 10, 12, 13, 16, 17],
+            Call::Charge => &[0, 20, 21],
+        }
+    }
+
+    /// The editions of what the call is given, as far as they pass question 2; none of Charge,
+    /// which is given no file.
+    fn editions(self) -> &'static [usize] {
+        match self {
+            Call::Charge => &[],
+            _ => &[1, 2],
         }
     }
 
@@ -94,13 +118,10 @@ impl Call {
     }
 }
 
-/// The editions that pass question 2.
-const EDITIONS: [usize; 2] = [1, 2];
-
 /// How often each call gave each answer, where 0 is an acceptance, to files and values of edition
-/// 1, of edition 2, and of another, which are in the first place.
+/// 1, of edition 2, and of another or of none, which are in the first place.
 #[derive(Clone, Default)]
-pub struct Counts([[[u64; 20]; 5]; 3]);
+pub struct Counts([[[u64; 22]; 6]; 3]);
 
 impl Counts {
     /// Counts an answer, which must be one that the call can give.
@@ -111,7 +132,7 @@ impl Counts {
         };
         assert!(
             match edition {
-                0 => matches!(answer, 1 | 2),
+                0 if !call.editions().is_empty() => matches!(answer, 1 | 2),
                 _ => call.gives(edition, answer),
             },
             "{call:?} gave {answer} in edition {edition}, which it cannot give"
@@ -146,7 +167,7 @@ impl Counts {
                 if self.of(call, answer) < least {
                     rare.push((call, 0, answer));
                 }
-                for edition in EDITIONS {
+                for &edition in call.editions() {
                     let gives = call.gives(edition, answer);
                     if gives && self.of_edition(edition, call, answer) < least {
                         rare.push((call, edition, answer));
@@ -158,13 +179,17 @@ impl Counts {
     }
 
     /// One line an answer, and for each of these calls a column of all, of edition 1 and of edition
-    /// 2; a dash where the call cannot give the answer, and no line where none of them can.
+    /// 2, the first alone where it takes no file; a dash where the call cannot give the answer, and
+    /// no line where none of them can.
     pub fn lines(&self, calls: &[Call]) -> String {
         let mut lines = format!("{:<10}", "answer");
         for call in calls {
-            lines += &format!("{:>12}{:>8}{:>8}", format!("{call:?}"), "ed. 1", "ed. 2");
+            lines += &format!("{:>12}", format!("{call:?}"));
+            for edition in call.editions() {
+                lines += &format!("{:>8}", format!("ed. {edition}"));
+            }
         }
-        for answer in 0..20 {
+        for answer in 0..22 {
             let gives = |call: &Call| call.answers().contains(&answer);
             if !calls.iter().any(gives) {
                 continue;
@@ -178,7 +203,7 @@ impl Counts {
                     true => format!("{:>12}", self.of(*call, answer)),
                     false => format!("{:>12}", "-"),
                 };
-                for edition in EDITIONS {
+                for &edition in call.editions() {
                     lines += &match call.gives(edition, answer) {
                         true => format!("{:>8}", self.of_edition(edition, *call, answer)),
                         false => format!("{:>8}", "-"),
@@ -204,6 +229,8 @@ pub struct HeldCalls {
     differences: Guarded<i64>,
     costs: [Guarded<u32>; 2],
     difference: Guarded<i64>,
+    charge: Guarded<f64>,
+    thousandths: Guarded<u32>,
     pub given: Counts,
 }
 
@@ -229,6 +256,8 @@ impl HeldCalls {
             differences: Guarded::new(1 << 11),
             costs: [Guarded::new(1), Guarded::new(1)],
             difference: Guarded::new(1),
+            charge: Guarded::new(1),
+            thousandths: Guarded::new(1),
             given: Counts::default(),
         }
     }
@@ -447,6 +476,33 @@ impl HeldCalls {
         answer
     }
 
+    /// Charge of a column at an entry ratio. Gives the answer, which the second implementation gave
+    /// too.
+    pub fn charge(&mut self, column: u32, entry_ratio: u32) -> u32 {
+        let charged = charges_1965::charge(column, entry_ratio);
+        for place in PLACES {
+            for before in DOUBLES {
+                let (answer, numbers) = match charged {
+                    Err(question) => (question, (Double(before), THOUSANDTHS)),
+                    Ok(given) => (0, (Double(given.charge.to_bits()), given.thousandths)),
+                };
+                let charge = self.charge.number(f64::from_bits(before), place);
+                let thousandths = self.thousandths.number(THOUSANDTHS, place);
+                let given = calls::charge(column, entry_ratio, charge, thousandths);
+                let about = || {
+                    let lent = format!("{:?} lent", Double(before));
+                    format!("Charge of column {column} at {entry_ratio}, {lent}, {place:?}")
+                };
+                same(given, answer, "answer", about);
+                let given = (Double(charge.to_bits()), *thousandths);
+                same(given, numbers, "charge and thousandths", about);
+            }
+        }
+        let answer = charged.err().unwrap_or(0);
+        self.given.add(Call::Charge, 0, answer);
+        answer
+    }
+
     /// Each call on a file gives this question: where its buffers, entry ratio and schedule are
     /// sound, and where each of them fails 13, 14, 16 or 17.
     #[track_caller]
@@ -578,6 +634,16 @@ fn same<T: PartialEq + fmt::Debug>(given: T, expected: T, part: &str, about: imp
         "{part}: the library gives {given:?}, the second rater {expected:?}\n{}",
         about()
     );
+}
+
+/// A double by its bits, so that it is equal to no other.
+#[derive(Clone, Copy, PartialEq, Eq)]
+struct Double(u64);
+
+impl fmt::Debug for Double {
+    fn fmt(&self, f: &mut fmt::Formatter) -> fmt::Result {
+        write!(f, "{:?} ({:#018x})", f64::from_bits(self.0), self.0)
+    }
 }
 
 /// A file in a message.

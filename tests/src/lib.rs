@@ -1,6 +1,6 @@
 //! What is tested beside the proofs: the exported calls from outside, held to a second rater.
 //!
-//! - `calls`: the five exported calls of target/staticlib/libretro_c.a.
+//! - `calls`: the six exported calls of target/staticlib/libretro_c.a.
 //! - `second_rater`: the second rater, written from documents 01 and 02 alone.
 //! - `charges_1965`: the charges of the 1965 table, from document 02 and source document 003 alone.
 //! - `straightforward`: a rater for Rate alone, the benchmark's baseline.
@@ -10,7 +10,7 @@
 //!   damaged files.
 //! - `text`: the text of a group, for people.
 //! - `guard` and `held_calls`: memory between unreadable pages, and the calls held to the second
-//!   rater in it.
+//!   rater, or to `charges_1965`, in it.
 
 pub mod calls;
 pub mod charges_1965;

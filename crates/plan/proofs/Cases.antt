@@ -24,7 +24,7 @@ use Rattle.plan.specs.Discount.{Layer, discount, guaranteedCost}
 use Rattle.plan.specs.Comparison.{Comparison, comparisonOf, compare}
 use lib.Ieee.{binary64, ofBits, ofInt, add, mul, div}
 use Rattle.plan.specs.Questions.{passed, firstNo}
-use Rattle.plan.specs.Charge.{Charged, chargeDouble, raised, thousandths, chargeQuestions, charge1965}
+use Rattle.plan.specs.Charge.{Charged, chargeDouble, raised, thousandths, chargeQuestions, charge1965, exactDenominator}
 use Rattle.plan.proofs.Thousandths.{wholeUpTo, thousandths-are}
 
 -- header values: limit, P, e, c, T, kind, maximum, minimum
@@ -539,6 +539,11 @@ ChargeCase =
     -- here every other order of the operations that was tried gives another double
     × (charge1965 50 332 ≡ charged 0x3fc6_8702_7cde_7b61 176)
     × (charge1965 51 357 ≡ charged 0x3fc5_f5cd_f127_b983 172)
+    -- the exact denominator, times 10 ^ 23
+    × (exactDenominator 36 0 ≡ pos 100000000000000000000000)
+    × (exactDenominator 36 100 ≡ pos 277777790000000000000000)
+    × (exactDenominator 44 50 ≡ pos 156782714492187500000000)
+    × (exactDenominator 52 500 ≡ pos 889101250000000000000000)
     -- 'Errors: 20 a column outside .36 to .52, then 21 an entry ratio above 5.00'
     × (charge1965 35 100 ≡ refused 20)
     × (charge1965 53 100 ≡ refused 20)
@@ -548,7 +553,7 @@ ChargeCase =
     × (charge1965 0 4294967295 ≡ refused 20)
 
 chargeCase : ChargeCase
-unfolding chargeDouble charge1965 add mul div ofInt ofBits
+unfolding chargeDouble charge1965 exactDenominator add mul div ofInt ofBits
 chargeCase = (
   charge-gives 36 0 0x3ff0_0000_0000_0000 1000 refl refl refl,
   charge-gives 36 50 0x3fe2_fd37_2565_d4a1 593 refl refl refl,
@@ -567,6 +572,10 @@ chargeCase = (
   charge-gives 52 500 0x3fbc_cb09_fcbc_ad4b 112 refl refl refl,
   charge-gives 50 332 0x3fc6_8702_7cde_7b61 176 refl refl refl,
   charge-gives 51 357 0x3fc5_f5cd_f127_b983 172 refl refl refl,
+  refl,
+  refl,
+  refl,
+  refl,
   refl,
   refl,
   refl,
