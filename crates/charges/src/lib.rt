@@ -1,4 +1,5 @@
-// Charges of the 1965 table: the charge of a column at an entry ratio by formula (3) of document 003, in doubles, and its thousandths.
+// Charges of the 1965 table: the charge of a column at an entry ratio by formula (3) of document 003, nested, in doubles in the order
+// that document 02 writes, and its thousandths.
 ghost use mathlib.Core.Path.{_≡_};
 ghost use Prim.Native.Nat.{_<_, _≤_};
 ghost use Rattle.plan.specs.Matrix as plan;
@@ -8,7 +9,7 @@ ghost use Rattle.plan.specs.Charge.{coefficientDouble, chargeDouble, lastRatio}
 ghost use Rattle.charges.specs.Charges.{ChargeIs, chargedIs, OnTableGiven};
 use std::num::truncating_f64_to_u64;
 
-// The columns of the table, in hundredths, and the largest entry ratio, in hundredths.
+// The columns that are carried, and the largest entry ratio that is taken, in hundredths.
 pub const FIRST_COLUMN: u32 = 36;
 
 pub const LAST_COLUMN: u32 = 52;
@@ -212,7 +213,7 @@ fn greatest(y: f64) -> u32
     0
 }
 
-// The charge of a column of the table at an entry ratio of the table.
+// The charge of a column that is carried at an entry ratio that is taken.
 fn charge_at(column: usize, hundredths: u32) -> TableCharge
     requires { ⌜ (firstColumn ≤ column) × (column ≤ lastColumn) × (hundredths ≤ lastRatio) ⌝ }
     ensures { λ t. ⌜ ChargeIs column hundredths t ⌝ }

@@ -1,4 +1,4 @@
--- 'Proved cases, with the group above as the first': one list, over literal bytes, computed by the prover. Each group's bytes
+-- 'Proved cases, with the group above as the first': one list, over literal bytes and numbers, computed by the prover. Each group's bytes
 -- are also the file that its values make; one file has a fill bit set, which no values make. Values that document 01 leaves open are in docs/DECISIONS.md. Assumes nothing.
 use mathlib.Core.Path.{_≡_, refl, ap, _∙_}
 use mathlib.Core.List.{List, [], _∷_, map}
@@ -536,7 +536,7 @@ ChargeCase =
     × (charge1965 52 100 ≡ charged 0x3fe0_a3d7_0d97_0f20 520)
     × (charge1965 52 200 ≡ charged 0x3fd5_5e6d_c7ff_f9b1 334)
     × (charge1965 52 500 ≡ charged 0x3fbc_cb09_fcbc_ad4b 112)
-    -- here every other order of the operations that was tried gives another double
+    -- here r × (r × ..), 1 + (r + ..), powers, h × 0.01, and coefficients times 0.0000001 or divided once, each give another double
     × (charge1965 50 332 ≡ charged 0x3fc6_8702_7cde_7b61 176)
     × (charge1965 51 357 ≡ charged 0x3fc5_f5cd_f127_b983 172)
     -- the exact denominator, times 10 ^ 23

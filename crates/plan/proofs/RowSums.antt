@@ -3,14 +3,14 @@
 use Prim.Native.Nat.{ℕ, _*_, _≤_}
 use mathlib.Core.Bool.{Bool}
 use lib.Dec.{T, leb, leb→le}
-use Rattle.plan.specs.Matrix.{firstColumn, lastColumn, rowOff, RowSumRule}
+use Rattle.plan.specs.Matrix.{firstColumn, lastColumn, rowOff, rowTolerance, RowSumRule}
 use Rattle.plan.proofs.Columns.{atColumns, at-column}
 
 abbrev kept : ℕ → Bool
-kept column = leb (rowOff column) (2 * column)
+kept column = leb (rowOff column) (rowTolerance * column)
 
 computed : T (atColumns kept)
 computed = tt
 
 pub row-sums : (column : ℕ) → firstColumn ≤ column → column ≤ lastColumn → RowSumRule column
-row-sums column l u = leb→le (rowOff column) (2 * column) (at-column kept computed column l u)
+row-sums column l u = leb→le (rowOff column) (rowTolerance * column) (at-column kept computed column l u)

@@ -16,7 +16,7 @@ use Rattle.plan.specs.Matrix.{firstColumn, lastColumn, coefficient}
 -- ---- the charge
 
 -- '1 ÷ (1 + r + r × r × (b2 + r × (b3 + .. + r × b8))), in doubles in the order written': sums and products from left to right,
--- so (1 + r) + ((r × r) × (..))
+-- so (1 + r) + ((r × r) × (..)), and each operation rounds, so that no product is fused with a sum
 unfoldable pub nested : Float → Float → Float → Float → Float → Float → Float → Float → Float
 nested b2 b3 b4 b5 b6 b7 b8 r =
     whole 1
@@ -94,7 +94,7 @@ Within (fin false m e) num (pos den) = (0 < den) × (apart (m * up e * den) (num
 
 -- ---- the call
 
--- the largest entry ratio of the table, 5.00, in hundredths
+-- the largest entry ratio that is taken, 5.00, in hundredths: Exhibit H's 'Maximum Usable r' of these columns
 abbrev pub lastRatio : ℕ
 lastRatio = 500
 

@@ -1,12 +1,10 @@
 -- Document 02, job 5: 'Source document 003 has a formula for the charge and a matrix of coefficients b2 to b8. Carry columns .36 to
 -- .52, seven coefficients each, 119 in all, as whole ten-millionths.' The matrix is Exhibit H of document 003, where a column of the
 -- table, a premium group, is a row. The scan has a comma for the point in b3 of .36; docs/DECISIONS.md says how each number was
--- held to the page.
+-- checked.
 use Prim.Native.Nat.{ℕ, _+_, _-_, _*_, _≤_}
-use mathlib.Core.Bool.{Bool}
-use mathlib.Core.List.{List, [], _∷_, map}
+use mathlib.Core.List.{List, [], _∷_}
 use lib.IntN.{ℤ, pos, negsuc, _+ℤ_, _-ℤ_, _*ℤ_, natAbs}
-use lib.Dec.{leb}
 use lib.ListN.{getD}
 use Rattle.plan.specs.Arithmetic.{sumZ}
 
@@ -59,7 +57,8 @@ matrix =
     -- .52
     ∷ negsuc 4911549 ∷ pos 10191766 ∷ negsuc 10283314 ∷ pos 5666651 ∷ negsuc 1663802 ∷ pos 245276 ∷ negsuc 14255 ∷ []
 
--- b_(i + 2) of a column given in hundredths, in ten-millionths
+-- b_(i + 2) of a column given in hundredths, in ten-millionths, for columns from .36 to .52 and i below 7, which is all that is asked for:
+-- below .36 the minus would stop at 0, and from 7 on i would reach the next row
 abbrev pub coefficient : ℕ → ℕ → ℤ
 coefficient column i = getD matrix ((column - firstColumn) * coefficients + i) (pos 0)
 
@@ -74,5 +73,9 @@ rowSum column = sumZ (coefficient column) (0 ∷ 1 ∷ 2 ∷ 3 ∷ 4 ∷ 5 ∷ 6
 abbrev pub rowOff : ℕ → ℕ
 rowOff column = natAbs (pos column *ℤ (rowSum column +ℤ pos 20000000) -ℤ pos 1000000000)
 
+-- 'within 2 ten-millionths'
+abbrev pub rowTolerance : ℕ
+rowTolerance = 2
+
 abbrev pub RowSumRule : ℕ → Type 0
-RowSumRule column = rowOff column ≤ 2 * column
+RowSumRule column = rowOff column ≤ rowTolerance * column

@@ -1,5 +1,5 @@
 -- The charge is 1 divided by the denominator's double. Where the exact denominator is at least 1 and its double is off by at most 10 ^ 11
--- grains, a ten-millionth, the charge is within a millionth of the exact quotient: the denominator's error counts at most three times, the
+-- grains, less than a ten-millionth, the charge is within a millionth of the exact quotient: the denominator's error counts at most three times, the
 -- charge being at most 3, and the last rounding adds 1,026 grains. Assumes nothing.
 use mathlib.Core.Path.{_≡_, sym, ap, subst}
 use mathlib.Core.Bool.{true, false, true≢false}
