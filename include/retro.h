@@ -9,6 +9,9 @@
  * guaranteed cost (retro_guaranteed), give the group's charge and savings at an entry ratio
  * (retro_table), take a file apart (retro_read) and make one (retro_write).
  *
+ * Before there are losses there is no file: for quotes retro_charge gives a charge of the 1965
+ * Table M, which is the same for every group.
+ *
  * Building
  *
  * The header is C11 and C++11; the library is for x86-64 Linux and needs the C library alone.
@@ -43,12 +46,15 @@
  *     17  Are the first three widths of the schedule at least 1?
  *     18  Is the minimum mark at most the maximum mark, both as written in thousandths?
  *     19  Does the first claim of each risk open an accident: is its bit 0?
+ *     20  Is the column from 36 to 52 hundredths?
+ *     21  Is the entry ratio at most 500 hundredths?
  *
  *     retro_rate        asks 1 to 6, 18, 7 to 9, 19, 10 to 13
  *     retro_guaranteed  asks 1 to 6, 18, 7 to 9, 19, 10 to 13, then 16, then 17
  *     retro_table       asks 1 to 6, 18, 7 to 9, 19, 10, then 14
  *     retro_read        asks 1 to 6, 18, 7 to 9, 19, then 13
  *     retro_write       asks 2 of the edition, 3 to 6, 18, 7, then 15, then 19, then 13
+ *     retro_charge      asks 20, then 21
  *
  * 11 is still asked, but no file can be made any more that is refused with it: marks that are in
  * order as written are in order in whole dollars.
@@ -235,6 +241,42 @@ uint32_t retro_write(uint32_t edition, retro_header header, const uint8_t *count
                      size_t counts_len, const uint32_t *claims, size_t claims_len,
                      const uint8_t *joined, size_t joined_len, uint8_t *file, size_t file_len,
                      size_t *length);
+
+/*
+ * Gives a charge of the 1965 Table M: what a risk's losses are expected to have above an entry
+ * ratio of its expected losses, as a part of these. It takes no file and no buffer.
+ *
+ *     column       is the premium group in hundredths, 36 to 52. A premium group is a column of the
+ *                  table and is named by its charge at the entry ratio 1.00: 36 is the column .36,
+ *                  whose charge there is 0.360.
+ *     entry_ratio  is in hundredths, 0 to 500: 150 is the entry ratio 1.50.
+ *     charge       gets the unrounded charge, above 0 and at most 1.
+ *     thousandths  gets the charge in whole thousandths, 1 to 1,000.
+ *
+ * Each column has seven coefficients, b2 to b8, which the library holds in whole ten-millionths as
+ * they were printed in 1965. Each is divided by 10,000,000, and r is entry_ratio divided by 100.
+ * The charge is then
+ *
+ *     1 / (1 + r + r * r * (b2 + r * (b3 + r * (b4 + r * (b5 + r * (b6 + r * (b7 + r * b8)))))))
+ *
+ * in doubles in the order in which C has it, (1 + r) + ((r * r) * (..)). Each quotient, product and
+ * sum is rounded to the nearest double by itself, and no product is fused with a sum. So the double
+ * is the same bit for bit on every machine with IEEE doubles. The calling thread must round to
+ * nearest, as it does where fesetround or the like was not called; with another rounding the last
+ * bits differ. The charge lies within a millionth of the exact quotient.
+ *
+ * The thousandths are made of that double: the greatest whole number from 1 to 1,000 that is at
+ * most (charge + 0.0005) * 1000, sum and product in doubles too, or 0 if none is; and where that is
+ * below 1 - r in thousandths, which is 1,000 - 10 * entry_ratio, they are 1 - r. At the entry ratio
+ * 100 they are ten times the column; at 0 they are 1,000.
+ *
+ * Column 44 at the entry ratio 200 has 232 thousandths, and its double is 0.23242048174815902 by
+ * "%.17g" of printf.
+ *
+ * A column below 36 or above 52 is refused with 20, whatever the entry ratio; then an entry ratio
+ * above 500 with 21. After either, charge and thousandths hold what they held, bit for bit.
+ */
+uint32_t retro_charge(uint32_t column, uint32_t entry_ratio, double *charge, uint32_t *thousandths);
 
 #ifdef __cplusplus
 }

@@ -41,6 +41,8 @@ static_assert(sizeof(retro_schedule) == 32, "four layers");
 static_assert(offsetof(retro_schedule, layers) == 0, "first");
 static_assert(sizeof(((retro_schedule *)0)->layers) == 32, "four, one after another");
 
+static_assert(sizeof(double) == 8, "an IEEE double");
+
 static_assert(RETRO_MOST_RISKS == 255, "8 bits");
 static_assert(RETRO_MOST_CLAIMS == 255 * 63, "6 bits for each risk");
 static_assert(RETRO_LARGEST_FILE == (128 + 255 * 6 + 16065 * 21 + 7) / 8, "of edition 2");
@@ -58,13 +60,16 @@ static uint32_t (*const make)(uint32_t, retro_header, const uint8_t *, size_t, c
 static uint32_t (*const beside)(const uint8_t *, size_t, retro_schedule, uint8_t *, size_t,
                                 int64_t *, size_t, uint32_t *, uint64_t *, uint64_t *, uint64_t *,
                                 uint32_t *, uint32_t *, int64_t *) = retro_guaranteed;
+static uint32_t (*const quote)(uint32_t, uint32_t, double *, uint32_t *) = retro_charge;
 
-/* Each call is given nothing, with null pointers where the count is 0. */
+/* Each call on a file is given nothing, with null pointers where the count is 0. A charge is
+   refused with 20 and 21, which leaves the numbers as they were, and then given. */
 int main(void)
 {
-    uint32_t risks = 0, charge = 0, savings = 0, discount = 0, guaranteed = 0;
+    uint32_t risks = 0, charge = 0, savings = 0, discount = 0, guaranteed = 0, thousandths = 7;
     uint64_t basic = 0, excess = 0, billed = 0;
     int64_t difference = 0;
+    double unrounded = -7.5;
     size_t length = 0;
     retro_header header = {0, 1, 0, 1000, 10000, 0, 0, 0};
     retro_schedule schedule = {{{5000, 0}, {95000, 109}, {400000, 126}, {0, 144}}};
@@ -87,6 +92,11 @@ int main(void)
     if (beside(NULL, 0, schedule, NULL, 0, NULL, 0, &risks, &basic, &excess, &billed, &discount,
                &guaranteed, &difference) != 1) {
         return 5;
+    }
+    if (quote(53, 501, &unrounded, &thousandths) != 20 ||
+        quote(52, 501, &unrounded, &thousandths) != 21 || unrounded != -7.5 || thousandths != 7 ||
+        quote(50, 100, &unrounded, &thousandths) != 0 || unrounded != 0.5 || thousandths != 500) {
+        return 6;
     }
     return 0;
 }

@@ -1,8 +1,8 @@
 #!/usr/bin/env bash
 # Builds the programs in C against target/staticlib/libretro_c.a and runs them: layout, what retro.h
-# promises; round_trip, Write and Read of the four-risk group in either edition; billing and
-# guaranteed, which are held to tests/c/*.expected, whose figures are the second rater's. Any
-# failure exits non-zero.
+# promises; round_trip, Write and Read of the four-risk group in either edition; billing, guaranteed
+# and charges, which are held to tests/c/*.expected, whose figures are the second rater's, and for
+# charges those of tests/src/charges_1965.rs. Any failure exits non-zero.
 set -euo pipefail
 export LC_ALL=C
 cd "$(dirname "$0")/../.."
@@ -21,11 +21,12 @@ g++ -std=c++11 -x c++ "${strict[@]}" tests/c/layout.c -x none "$archive" -o "$bu
 gcc -std=c11 -O2 "${strict[@]}" tests/c/round_trip.c "$archive" -o "$built/round_trip"
 gcc -std=c11 -O2 "${strict[@]}" tests/c/billing.c "$archive" -o "$built/billing"
 gcc -std=c11 -O2 "${strict[@]}" tests/c/guaranteed.c "$archive" -o "$built/guaranteed"
+gcc -std=c11 -O2 "${strict[@]}" tests/c/charges.c "$archive" -o "$built/charges"
 
 for language in layout layout++; do
     "$built/$language" || { echo "$language: call $? has another answer" >&2; exit 1; }
 done
-echo "layout: 5 calls linked and run as C11 and as C++11: as expected"
+echo "layout: 6 calls linked and run as C11 and as C++11: as expected"
 "$built/round_trip"
 
 # ran STATUS PROGRAM ARGUMENT..: runs the program, which must end with that status.
@@ -59,11 +60,15 @@ failure() {
     diff /dev/null "$built/printed"
 }
 
-# unprinted PROGRAM: lines that cannot be printed.
+# unprinted PROGRAM ARGUMENT..: lines that cannot be printed.
 unprinted() {
-    local status=0
-    "$built/$1" examples/four-risks.group >/dev/full 2>"$built/said" || status=$?
-    [ "$status" -eq 4 ]
+    local program=$1 status=0
+    shift
+    "$built/$program" "$@" >/dev/full 2>"$built/said" || status=$?
+    [ "$status" -eq 4 ] || {
+        echo "$program $*, printed to /dev/full: exit status $status, expected 4" >&2
+        exit 1
+    }
 }
 
 lines four-risks billing examples/four-risks.group
@@ -81,7 +86,7 @@ for k in 01 02 03 04 05 06 07 08 09 10 12 18 19; do
     cat "$built/said"
 done >"$built/refused"
 diff tests/c/refused.expected "$built/refused"
-unprinted billing
+unprinted billing examples/four-risks.group
 
 echo "billing: 3 invoices, 13 refused files, 2 unreadable, 2 wrong usages, 1 unprinted: as expected"
 
@@ -109,6 +114,37 @@ failure guaranteed-usage 3 guaranteed "$file" 5000 0 95000 109 400000 126
 failure guaranteed-usage 3 guaranteed "$file" 5000 0 95000 109 400000 12.6 144
 failure guaranteed-usage 3 guaranteed "$file" 5000 0 95000 109 4294967296 126 144
 failure guaranteed-missing 2 guaranteed examples/no-such-file.group
-unprinted guaranteed
+unprinted guaranteed "$file"
 
 echo "guaranteed: 2 groups shown, 9 refused, 1 unreadable, 4 wrong usages, 1 unprinted: as expected"
+
+# Columns and entry ratios in hundredths, with the corners of the table.
+for pair in '36 0' '36 100' '36 500' '43 200' '44 150' '50 332' '51 357' '52 100' '52 500'; do
+    read -r -a numbers <<<"$pair"
+    ran 0 charges "${numbers[@]}"
+    diff /dev/null "$built/said"
+    cat "$built/printed"
+done >"$built/charged"
+diff tests/c/charges.expected "$built/charged"
+
+# 20 of a column on either side and of the largest number, 21, and 20 before 21.
+for pair in '35 100' '53 0' '4294967295 100' '44 501' '44 4294967295' '53 501'; do
+    read -r -a numbers <<<"$pair"
+    ran 1 charges "${numbers[@]}"
+    diff /dev/null "$built/printed"
+    cat "$built/said"
+done >"$built/refused"
+diff tests/c/charges-refused.expected "$built/refused"
+
+failure charges-usage 3 charges
+failure charges-usage 3 charges 44
+failure charges-usage 3 charges 44 150 1
+failure charges-usage 3 charges .44 1.50
+failure charges-usage 3 charges 44 1.50
+failure charges-usage 3 charges -44 150
+failure charges-usage 3 charges 44 ''
+failure charges-usage 3 charges 4294967296 150
+failure charges-usage 3 charges 44 99999999999999999999
+unprinted charges 44 150
+
+echo "charges: 9 shown, 6 refused, 9 wrong usages, 1 unprinted: as expected"

@@ -106,8 +106,8 @@ impl Call {
         }
     }
 
-    /// Whether the call can give this answer to a file or to values of edition 1 or 2. Edition 1
-    /// has no bits that are set, and Write asks 2 of the edition alone.
+    /// Whether the call can give this answer to a file or to values of edition 1 or 2, and Charge
+    /// at all. Edition 1 has no bits that are set, and Write asks 2 of the edition alone.
     fn gives(self, edition: usize, answer: u32) -> bool {
         let never = match answer {
             19 => edition == 1,
@@ -476,8 +476,7 @@ impl HeldCalls {
         answer
     }
 
-    /// Charge of a column at an entry ratio. Gives the answer, which the second implementation gave
-    /// too.
+    /// Charge of a column at an entry ratio. Gives the answer, which both computations gave.
     pub fn charge(&mut self, column: u32, entry_ratio: u32) -> u32 {
         let charged = charges_1965::charge(column, entry_ratio);
         for place in PLACES {

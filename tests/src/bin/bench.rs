@@ -4,11 +4,15 @@
 //!
 //! Each figure is the median of 101 runs after 11 that do not count, in one process and with the
 //! same buffers, which are not cleared between runs. The runs of the calls take turns. A run is as
-//! many calls as take about a millisecond, and its time is divided by their number.
+//! many calls as take about a millisecond, and its time is divided by their number. The charges of
+//! the 1965 table, which take no file, are measured after the others in the same way.
 
+use retro_tests::calls;
+use retro_tests::charges_1965;
 use retro_tests::desk::{Call, Case, Desk, Joined};
 use retro_tests::peers::Form::{ClaimByClaim, WithVectors};
 use retro_tests::second_rater::{MOST_CLAIMS_PER_RISK, MOST_RISKS};
+use std::hint::black_box;
 use std::time::Instant;
 
 const RUNS: usize = 101;
@@ -325,6 +329,210 @@ fn measure(cases: &Cases) -> [Times; ALL.len()] {
     times
 }
 
+/// What gives a charge of the 1965 table.
+#[derive(Clone, Copy, PartialEq)]
+enum Giver {
+    Call,
+    Straightforward,
+    Second,
+}
+
+const GIVERS: [Giver; 3] = [Giver::Call, Giver::Straightforward, Giver::Second];
+
+impl Giver {
+    fn name(self) -> &'static str {
+        match self {
+            Giver::Call => "Charge",
+            Giver::Straightforward => "straightforward charge",
+            Giver::Second => "second computation",
+        }
+    }
+}
+
+/// A straightforward charge in Rust's doubles: the coefficients are divided once for all calls, the
+/// steps are in the order written, and a conversion cuts the thousandths off.
+struct Straightforward([[f64; 7]; 17]);
+
+impl Straightforward {
+    fn new() -> Straightforward {
+        let mut rows = [[0.0; 7]; 17];
+        for (row, column) in rows.iter_mut().zip(charges_1965::COLUMNS) {
+            let whole = charges_1965::row(column).expect("the matrix has the column");
+            *row = whole.map(|b| f64::from(b) / 10_000_000.0);
+        }
+        Straightforward(rows)
+    }
+
+    #[inline(never)]
+    fn charge(&self, column: u32, entry_ratio: u32) -> Result<(f64, u32), u32> {
+        let row = column
+            .checked_sub(36)
+            .and_then(|k| self.0.get(k as usize))
+            .ok_or(20_u32)?;
+        if entry_ratio > 500 {
+            return Err(21);
+        }
+        let [b2, b3, b4, b5, b6, b7, b8] = row;
+        let r = f64::from(entry_ratio) / 100.0;
+        let charge = 1.0
+            / (1.0
+                + r
+                + r * r * (b2 + r * (b3 + r * (b4 + r * (b5 + r * (b6 + r * (b7 + r * b8)))))));
+        let greatest = (((charge + 0.0005) * 1_000.0) as u32).min(1_000);
+        let one_less_r = 1_000_u32.saturating_sub(10 * entry_ratio);
+        Ok((charge, greatest.max(one_less_r)))
+    }
+}
+
+/// Charge by the exported call.
+fn charge(column: u32, entry_ratio: u32) -> Result<(f64, u32), u32> {
+    let (mut charge, mut thousandths) = (0.0, 0);
+    match calls::charge(column, entry_ratio, &mut charge, &mut thousandths) {
+        0 => Ok((charge, thousandths)),
+        question => Err(question),
+    }
+}
+
+/// The same by the second computation.
+fn second_charge(column: u32, entry_ratio: u32) -> Result<(f64, u32), u32> {
+    charges_1965::charge(column, entry_ratio).map(|given| (given.charge, given.thousandths))
+}
+
+/// The time of one charge in nanoseconds, over so many passes of these columns and entry ratios,
+/// each of which must have one.
+fn time_charges(
+    pairs: &[(u32, u32)],
+    passes: u32,
+    charge: impl Fn(u32, u32) -> Result<(f64, u32), u32>,
+) -> f64 {
+    let start = Instant::now();
+    for _ in 0..passes {
+        for &(column, entry_ratio) in pairs {
+            assert!(black_box(charge(black_box(column), black_box(entry_ratio))).is_ok());
+        }
+    }
+    start.elapsed().as_nanos() as f64 / (f64::from(passes) * pairs.len() as f64)
+}
+
+/// What is measured of the charges: columns and entry ratios, by name.
+struct Charges {
+    name: String,
+    pairs: Vec<(u32, u32)>,
+}
+
+impl Charges {
+    /// A single pair.
+    fn at(column: u32, entry_ratio: u32) -> Charges {
+        let r = f64::from(entry_ratio) / 100.0;
+        Charges {
+            name: format!(".{column} at {r:.2}"),
+            pairs: vec![(column, entry_ratio)],
+        }
+    }
+
+    /// All pairs of the column that takes the call longest.
+    fn slowest_column() -> Charges {
+        let of_column = |column| {
+            let pairs = charges_1965::ENTRY_RATIOS.map(|entry_ratio| (column, entry_ratio));
+            pairs.collect::<Vec<(u32, u32)>>()
+        };
+        let least = |column| {
+            let times = (0..RUNS).map(|_| time_charges(&of_column(column), 1, charge));
+            times.fold(f64::MAX, f64::min)
+        };
+        let times = charges_1965::COLUMNS.map(|column| (least(column), column));
+        let (_, column) = times
+            .max_by(|one, other| one.0.total_cmp(&other.0))
+            .expect("the table has columns");
+        Charges {
+            name: format!(".{column}, the slowest column"),
+            pairs: of_column(column),
+        }
+    }
+
+    /// All pairs of the table, column after column.
+    fn all() -> Charges {
+        let pairs: Vec<(u32, u32)> = charges_1965::pairs().collect();
+        Charges {
+            name: format!("all {} pairs", pairs.len()),
+            pairs,
+        }
+    }
+}
+
+/// Measures the charges and prints their times and ratios.
+fn charges() {
+    let straightforward = Straightforward::new();
+    for (column, entry_ratio) in charges_1965::pairs() {
+        let given = charge(column, entry_ratio);
+        assert_eq!(given, straightforward.charge(column, entry_ratio));
+        assert_eq!(given, second_charge(column, entry_ratio));
+    }
+    let measured = [
+        Charges::at(44, 0),
+        Charges::at(44, 100),
+        Charges::at(44, 500),
+        Charges::slowest_column(),
+        Charges::all(),
+    ];
+    let run = |giver: Giver, charges: &Charges, passes| match giver {
+        Giver::Call => time_charges(&charges.pairs, passes, charge),
+        Giver::Straightforward => time_charges(&charges.pairs, passes, |column, entry_ratio| {
+            straightforward.charge(column, entry_ratio)
+        }),
+        Giver::Second => time_charges(&charges.pairs, passes, second_charge),
+    };
+    let passes = measured.each_ref().map(|charges| {
+        GIVERS.map(|giver| {
+            let once = (0..UNCOUNTED).map(|_| run(giver, charges, 1) * charges.pairs.len() as f64);
+            (1_000_000.0 / once.fold(f64::MAX, f64::min)).clamp(1.0, 100_000.0) as u32
+        })
+    });
+    let mut times = measured
+        .each_ref()
+        .map(|_| GIVERS.map(|_| Times(Vec::new())));
+    for turn in 0..UNCOUNTED + RUNS {
+        for (k, charges) in measured.iter().enumerate() {
+            for giver in GIVERS {
+                let time = run(giver, charges, passes[k][giver as usize]);
+                if turn >= UNCOUNTED {
+                    times[k][giver as usize].0.push(time);
+                }
+            }
+        }
+    }
+    for times in times.iter_mut().flatten() {
+        times.0.sort_by(f64::total_cmp);
+    }
+    println!("| charge of the 1965 table | median, ns a call | fastest | slowest |");
+    println!("|---|---:|---:|---:|");
+    for giver in GIVERS {
+        for (charges, times) in measured.iter().zip(&times) {
+            let times = &times[giver as usize];
+            println!(
+                "| {}, {} | {:.1} | {:.1} | {:.1} |",
+                giver.name(),
+                charges.name,
+                times.median(),
+                times.fastest(),
+                times.slowest(),
+            );
+        }
+    }
+    println!();
+    println!("| ratio of medians | to the straightforward charge | to the second computation |");
+    println!("|---|---:|---:|");
+    for (charges, times) in measured.iter().zip(&times) {
+        let [of_call, of_straightforward, of_second] = times.each_ref().map(Times::median);
+        println!(
+            "| Charge, {} | {:.2} | {:.4} |",
+            charges.name,
+            of_call / of_straightforward,
+            of_call / of_second,
+        );
+    }
+}
+
 fn main() {
     let cases = Cases::new();
     let times = measure(&cases);
@@ -382,4 +590,6 @@ fn main() {
         a_claim(QuarterJoined),
         a_claim(HalfJoined),
     );
+    println!();
+    charges();
 }

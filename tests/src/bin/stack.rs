@@ -4,7 +4,7 @@
 //!
 //! Each call runs on the largest file of either edition in a thread whose stack was filled with a
 //! pattern; what it used reaches from the place of the call down to the lowest byte that has
-//! changed. For the program target/bin/retro it is the least limit, in steps of 4 KiB, under which
+//! changed. Charge takes no file and is run twice. For the program target/bin/retro it is the least limit, in steps of 4 KiB, under which
 //! it rates the file.
 
 use retro_tests::calls::{self, Numbers};
@@ -107,6 +107,10 @@ fn write(task: &mut Task) {
     );
 }
 
+fn charge(task: &mut Task) {
+    task.answer = calls::charge(44, 120, &mut 0.0, &mut 0);
+}
+
 extern "C" fn start(task: *mut c_void) -> *mut c_void {
     // SAFETY: the task outlives the thread, and no one else uses it before the thread has ended.
     let task = unsafe { &mut *task.cast::<Task>() };
@@ -199,6 +203,7 @@ fn main() {
         ("Read", read),
         ("Write", write),
         ("Guaranteed", guaranteed),
+        ("Charge, which takes no file", charge),
     ] {
         let [of_1, of_2] = tasks.each_mut().map(|task| used(task, call));
         println!("| {name} | {of_1} bytes | {of_2} bytes |");
