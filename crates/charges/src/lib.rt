@@ -2,11 +2,10 @@
 // that document 02 writes, and its thousandths.
 ghost use mathlib.Core.Path.{_≡_};
 ghost use Prim.Native.Nat.{_<_, _≤_};
-ghost use Rattle.plan.specs.Matrix as plan;
-ghost use Rattle.plan.specs.Matrix.{firstColumn, lastColumn, coefficients};
+ghost use Rattle.plan.specs.Matrix.{firstColumn, lastColumn};
 ghost use Rattle.plan.specs.Charge as table;
-ghost use Rattle.plan.specs.Charge.{coefficientDouble, chargeDouble, lastRatio};
-ghost use Rattle.charges.specs.Charges.{ChargeIs, chargedIs, OnTableGiven};
+ghost use Rattle.plan.specs.Charge.{fromTenMillionths, chargeDouble, lastRatio};
+ghost use Rattle.charges.specs.Charges.{RowIs, ChargeIs, chargedIs, OnTableGiven};
 use std::num::truncating_f64_to_u64;
 
 // The columns that are carried, and the largest entry ratio that is taken, in hundredths.
@@ -168,20 +167,40 @@ pub enum Charged {
     Refused(u32),
 }
 
-// b_(i + 2) of a column, in ten-millionths.
-fn ten_millionths(column: usize, i: usize) -> i32
-    requires { ⌜ (firstColumn ≤ column) × (column ≤ lastColumn) × (i < coefficients) ⌝ }
-    ensures { λ b. ⌜ b ≡ plan.coefficient column i ⌝ }
-{
-    MATRIX[(column - 36) * 7 + i]
+// The coefficients of a column.
+struct Row {
+    b2: f64,
+    b3: f64,
+    b4: f64,
+    b5: f64,
+    b6: f64,
+    b7: f64,
+    b8: f64,
 }
 
-// b_(i + 2) of a column.
-fn coefficient(column: usize, i: usize) -> f64
-    requires { ⌜ (firstColumn ≤ column) × (column ≤ lastColumn) × (i < coefficients) ⌝ }
-    ensures { λ b. ⌜ b ≡ coefficientDouble column i ⌝ }
+// A coefficient of so many ten-millionths.
+fn coefficient(ten_millionths: i32) -> f64
+    ensures { λ b. ⌜ b ≡ fromTenMillionths «ten_millionths» ⌝ }
 {
-    ten_millionths(column, i) as f64 / 10000000.0
+    ten_millionths as f64 / 10000000.0
+}
+
+// The row of a column.
+fn row_of(column: usize) -> Row
+    requires { ⌜ (firstColumn ≤ column) × (column ≤ lastColumn) ⌝ }
+    ensures { λ row. ⌜ RowIs column row ⌝ }
+{
+    let matrix = MATRIX;
+    let at = (column - 36) * 7;
+    Row {
+        b2: coefficient(matrix[at]),
+        b3: coefficient(matrix[at + 1]),
+        b4: coefficient(matrix[at + 2]),
+        b5: coefficient(matrix[at + 3]),
+        b6: coefficient(matrix[at + 4]),
+        b7: coefficient(matrix[at + 5]),
+        b8: coefficient(matrix[at + 6]),
+    }
 }
 
 // The charge of a column at r hundredths.
@@ -189,14 +208,15 @@ fn unrounded(column: usize, hundredths: u32) -> f64
     requires { ⌜ (firstColumn ≤ column) × (column ≤ lastColumn) ⌝ }
     ensures { λ x. ⌜ x ≡ chargeDouble column hundredths ⌝ }
 {
+    let row = row_of(column);
     let r = hundredths as f64 / 100.0;
-    let b2 = coefficient(column, 0);
-    let b3 = coefficient(column, 1);
-    let b4 = coefficient(column, 2);
-    let b5 = coefficient(column, 3);
-    let b6 = coefficient(column, 4);
-    let b7 = coefficient(column, 5);
-    let b8 = coefficient(column, 6);
+    let b2 = row.b2;
+    let b3 = row.b3;
+    let b4 = row.b4;
+    let b5 = row.b5;
+    let b6 = row.b6;
+    let b7 = row.b7;
+    let b8 = row.b8;
     1.0 / (1.0 + r + r * r * (b2 + r * (b3 + r * (b4 + r * (b5 + r * (b6 + r * (b7 + r * b8)))))))
 }
 

@@ -23,9 +23,13 @@ nested b2 b3 b4 b5 b6 b7 b8 r =
     /ᵈ (whole 1 +ᵈ r
     +ᵈ r *ᵈ r *ᵈ (b2 +ᵈ r *ᵈ (b3 +ᵈ r *ᵈ (b4 +ᵈ r *ᵈ (b5 +ᵈ r *ᵈ (b6 +ᵈ r *ᵈ (b7 +ᵈ r *ᵈ b8)))))))
 
--- 'each coefficient divided by 10,000,000': b_(i + 2) of a column
+-- 'each coefficient divided by 10,000,000'
+abbrev pub fromTenMillionths : ℤ → Float
+fromTenMillionths b = double b /ᵈ whole 10000000
+
+-- b_(i + 2) of a column
 abbrev pub coefficientDouble : ℕ → ℕ → Float
-coefficientDouble column i = double (coefficient column i) /ᵈ whole 10000000
+coefficientDouble column i = fromTenMillionths (coefficient column i)
 
 -- 'and r's hundredths by 100'
 abbrev pub ratioDouble : ℕ → Float

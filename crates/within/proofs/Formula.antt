@@ -10,8 +10,8 @@ use native.Mathlib.Omega.{arith}
 use lib.IntN.{ℤ, pos, natAbs}
 use lib.Dec.{lit<, lit≤}
 use lib.Ieee.{Float, ofInt}
-use Rattle.plan.specs.Doubles.{_+ᵈ_, _*ᵈ_, _/ᵈ_, double, whole}
-use Rattle.plan.specs.Charge.{ratioDouble, lastRatio}
+use Rattle.plan.specs.Doubles.{_+ᵈ_, _*ᵈ_, whole}
+use Rattle.plan.specs.Charge.{fromTenMillionths, ratioDouble, lastRatio}
 use Rattle.plan.proofs.Differences.{over, under}
 use Rattle.within.proofs.Near.{Near, same}
 use Rattle.within.proofs.Rounding.{off, round-near}
@@ -36,10 +36,7 @@ takes b = pile (λ i. under (b i))
 abbrev pub Fits : ℤ → Type 0
 Fits z = natAbs z ≤ 20000000
 
-abbrev coefficientOf : ℤ → Float
-coefficientOf z = double z /ᵈ whole 10000000
-
-coefficient-near : (z : ℤ) → Fits z → Near (coefficientOf z) (negative z) (over z) (under z) 10000000 2 (off 2)
+coefficient-near : (z : ℤ) → Fits z → Near (fromTenMillionths z) (negative z) (over z) (under z) 10000000 2 (off 2)
 coefficient-near z h = quotient-near z 10000000 2 h (lit< tt) (lit≤ tt) (lit≤ tt) (lit≤ tt)
 
 module _ (r : ℕ) (top : r ≤ lastRatio) where
@@ -49,7 +46,7 @@ module _ (r : ℕ) (top : r ≤ lastRatio) where
   -- b + r × x, with x over N and the result over 100 × N, in which b's 10,000,000 goes K times
   step : (z : ℤ) (K N : ℕ) {x : Float} {p n m e : ℕ} → Fits z → 0 < N → 100 * N ≡ K * 10000000 → m ≤ 2 ^ 30 → e ≤ 2 ^ 50
       → Either x p n N m e
-      → Either (coefficientOf z +ᵈ ratioDouble r *ᵈ x) (K * over z + r * p) (K * under z + r * n) (100 * N) (2 + 5 * m)
+      → Either (fromTenMillionths z +ᵈ ratioDouble r *ᵈ x) (K * over z + r * p) (K * under z + r * n) (100 * N) (2 + 5 * m)
       (off (2 + 5 * m + 2) + (off 2 + (off (6 * (m + 1)) + (6 * e + off 5 * m))))
   step z K N h c q l k (s, v) =
       let b = coefficient-near z h in
@@ -82,7 +79,7 @@ module _ (r : ℕ) (top : r ≤ lastRatio) where
     -- ---- b2 + r × (b3 + .. + r × b8), over 10,000,000 × 100 ^ 6
     abbrev nest : Float
     nest =
-        let c : ℕ → Float = λ i. coefficientOf (b i) in
+        let c : ℕ → Float = λ i. fromTenMillionths (b i) in
         let R = ratioDouble r in
         c 0 +ᵈ R *ᵈ (c 1 +ᵈ R *ᵈ (c 2 +ᵈ R *ᵈ (c 3 +ᵈ R *ᵈ (c 4 +ᵈ R *ᵈ (c 5 +ᵈ R *ᵈ c 6)))))
 
