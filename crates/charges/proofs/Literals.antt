@@ -15,10 +15,6 @@ pub thousand : ofBits binary64 0x408f_4000_0000_0000 ≡ whole 1000
 unfolding ofBits ofInt
 thousand = refl
 
-pub ten-million : ofBits binary64 0x4163_12d0_0000_0000 ≡ whole 10000000
-unfolding ofBits ofInt
-ten-million = refl
-
 -- 0.0005 as a double is 5 divided by 10,000
 pub half-thousandth : ofBits binary64 0x3f40_624d_d2f1_a9fc ≡ whole 5 /ᵈ whole 10000
 unfolding ofBits ofInt div

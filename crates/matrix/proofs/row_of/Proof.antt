@@ -1,4 +1,4 @@
--- `charges::row_of` meets its contract: the seven entries of the constant table from the row's place on are the matrix's, and each is
+-- `matrix::row_of` meets its contract: the seven entries of the constant table from the row's place on are the matrix's, and each is
 -- divided. Assumes nothing.
 use borrow.Author.Needs.{needs}
 use mathlib.Core.Path.{_≡_, sym, ap, _∙_}
@@ -8,8 +8,8 @@ use lib.IntN.{pos}
 use lib.ListN.{getD}
 use Rattle.plan.specs.Matrix.{firstColumn, coefficients, matrix}
 use Rattle.plan.specs.Charge.{fromTenMillionths}
-use Rattle.charges.proofs.row_of.Statement.{statement}
-use Rattle.charges.proofs.row_of.Tie as tie
+use Rattle.matrix.proofs.row_of.Statement.{statement}
+use Rattle.matrix.proofs.row_of.Tie as tie
 
 sub-at : tie.Need-sub-at
 sub-at c = search needs

@@ -1,0 +1,2 @@
+-- What the functions of the matrix give.
+pub mod Rows
