@@ -65,8 +65,9 @@
  *
  * A slice is a pointer and a count of elements. Its pointer may be null where the count is 0. Every
  * other pointer, also that to a number, must be aligned for its type and point to as many elements
- * as the count says, readable ones, and writable ones where it is not to const. This alone is not
- * checked. Bytes, counts, claims, bits and values of any kind are answered.
+ * as the count says, readable ones, and writable ones where it is not to const. This alone, and for
+ * retro_charge how the thread rounds, is not checked. Bytes, counts, claims, bits and values of any
+ * kind are answered.
  *
  * What a call writes must not overlap with anything else that the same call is given.
  *
@@ -251,7 +252,7 @@ uint32_t retro_write(uint32_t edition, retro_header header, const uint8_t *count
  *                  whose charge there is 0.360.
  *     entry_ratio  is in hundredths, 0 to 500: 150 is the entry ratio 1.50.
  *     charge       gets the unrounded charge, above 0 and at most 1.
- *     thousandths  gets the charge in whole thousandths, 1 to 1,000.
+ *     thousandths  gets the charge in whole thousandths, 27 to 1,000.
  *
  * Each column has seven coefficients, b2 to b8, which the library holds in whole ten-millionths as
  * they were printed in 1965. Each is divided by 10,000,000, and r is entry_ratio divided by 100.
@@ -268,7 +269,8 @@ uint32_t retro_write(uint32_t edition, retro_header header, const uint8_t *count
  * The thousandths are made of that double: the greatest whole number from 1 to 1,000 that is at
  * most (charge + 0.0005) * 1000, sum and product in doubles too, or 0 if none is; and where that is
  * below 1 - r in thousandths, which is 1,000 - 10 * entry_ratio, they are 1 - r. At the entry ratio
- * 100 they are ten times the column; at 0 they are 1,000.
+ * 100 they are ten times the column; at 0 they are 1,000. In none of these columns does the 0 or
+ * the 1 - r decide: the thousandths are 27 at the least.
  *
  * Column 44 at the entry ratio 200 has 232 thousandths, and its double is 0.23242048174815902 by
  * "%.17g" of printf.

@@ -31,8 +31,8 @@ pub const ENTRY_RATIOS: RangeInclusive<u32> = 0..=500;
 /// the row-sum rule, which a wrong digit breaks unless it is a last digit and off
 /// by 3 at most. Exhibit G prints the row of .43 again and how it was computed.
 /// Exhibit I, where the charges go on beyond 5.00, weighs the coefficients of a
-/// row quite otherwise than their sum does, and bears out all seventeen rows (in
-/// tests/printed_charges.rs).
+/// row quite otherwise than their sum does, and meets all seventeen rows at 5.00 to
+/// within a thousandth (in tests/printed_charges.rs).
 ///
 /// That wrong digits do occur, columns show which are not carried: .63 is off by
 /// 500,000 ten-millionths, .59 by 4,000,000, .53 by 5,000 and .30 by 3.3.
@@ -491,9 +491,10 @@ mod tests {
             .unwrap()
     }
 
-    /// Two charges at which each other order of the steps gives another double.
+    /// Two charges at which each of eight other ways to compute the formula gives
+    /// another double.
     #[test]
-    fn no_other_order_gives_these_doubles() {
+    fn eight_other_ways_give_other_doubles() {
         for (column, entry_ratio, thousandths, bits) in [
             (50, 332, 176, 0x3fc6_8702_7cde_7b61),
             (51, 357, 172, 0x3fc5_f5cd_f127_b983),

@@ -1,8 +1,8 @@
 //! The exported calls held to the second rater, and Charge to `charges_1965`: every number and
 //! every byte, after answers and after refusals.
 //!
-//! Each call is made twice, with everything it is lent against the unreadable page before it and
-//! against the one after it. What is lent is preset, so that a part that must keep its contents is
+//! Each call is made twice, Charge so for each of seven lent doubles, with everything it is lent
+//! against the unreadable page before it and against the one after it. What is lent is preset, so that a part that must keep its contents is
 //! seen to keep them.
 
 use crate::calls::{self, Group, Lent, Numbers};

@@ -526,7 +526,7 @@ fn without(mut list: Vec<u32>, taken: &[u32]) -> Option<Vec<u32>> {
 }
 
 /// As far as .06 a ring in Exhibit O is a nought: with a 5 or a 6 in place of one of them, the
-/// charge of .49 would be below 1 − r, against (C24).
+/// charge of .49 would be below 1 − r, and its saving negative: "can never be negative".
 #[test]
 fn rings_are_noughts() {
     for (r, line) in EXHIBIT_O.iter().filter(|&&(r, _)| r <= 6) {

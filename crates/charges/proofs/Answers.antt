@@ -1,13 +1,13 @@
 -- From a test that the code makes to document 02's answer: questions 20 and 21 in their order, or the charge. Assumes nothing.
 use mathlib.Core.Path.{_≡_, sym, ap, _∙_, subst}
-use mathlib.Core.Bool.{Bool, true, false, _&&_}
-use Prim.Native.Nat.{ℕ, _*_, _<_, _≤_}
+use mathlib.Core.Bool.{true, _&&_}
+use Prim.Native.Nat.{ℕ, _<_, _≤_}
 use borrow.Author.Tests.{le-leb, lt-leb}
 use lib.Dec.{leb}
 use lib.Ieee.{Float}
-use Rattle.plan.specs.Calls.{Answer, refused, given}
+use Rattle.plan.specs.Calls.{given}
 use Rattle.plan.specs.Matrix.{firstColumn, lastColumn}
-use Rattle.plan.specs.Charge.{Charged, chargeDouble, thousandths, charge1965, lastRatio, Within, exactNumerator, exactDenominator}
+use Rattle.plan.specs.Charge.{chargeDouble, thousandths, charge1965, lastRatio, Within, exactNumerator, exactDenominator}
 use Rattle.plan.proofs.Tests.{and-yes, and-first-no, and-second-no}
 use Rattle.plan.proofs.Thousandths.{at-one}
 use Rattle.within.proofs.Within.{within}

@@ -1,7 +1,7 @@
 // Charges of the 1965 table: the charge of a column at an entry ratio by formula (3) of document 003, nested, in doubles in the order
 // that document 02 writes, and its thousandths.
 ghost use mathlib.Core.Path.{_≡_};
-ghost use Prim.Native.Nat.{_<_, _≤_};
+ghost use Prim.Native.Nat.{_≤_};
 ghost use Rattle.plan.specs.Matrix.{firstColumn, lastColumn};
 ghost use Rattle.plan.specs.Charge as table;
 ghost use Rattle.plan.specs.Charge.{chargeDouble, lastRatio};
@@ -10,11 +10,11 @@ use matrix::row_of;
 use std::num::truncating_f64_to_u64;
 
 // The columns that are carried, and the largest entry ratio that is taken, in hundredths.
-pub const FIRST_COLUMN: u32 = 36;
+const FIRST_COLUMN: u32 = 36;
 
-pub const LAST_COLUMN: u32 = 52;
+const LAST_COLUMN: u32 = 52;
 
-pub const LAST_RATIO: u32 = 500;
+const LAST_RATIO: u32 = 500;
 
 // The charge, and its whole thousandths.
 pub struct TableCharge {

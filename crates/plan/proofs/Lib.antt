@@ -27,6 +27,7 @@ pub mod MarksAsWritten
 pub mod Columns
 pub mod RowSums
 pub mod Thousandths
+pub mod Charges
 pub mod Decoded
 pub mod Writable
 pub mod RoundTrip

@@ -21,7 +21,7 @@ use Rattle.plan.proofs.Questions.{without, left-out, passed-yes, answer
 abbrev withoutEighteen : List Question → List Question
 withoutEighteen = without 18
 
--- 18 stands once in each call's list (`asked-in-order`), in this gate; without it the gate is document 01's 3 to 7
+-- 18 stands once in the list of each call on a file and of Write (`asked-in-order`), in this gate; without it the gate is document 01's 3 to 7
 three-to-seven : (h : Header) (n : ℕ) → withoutEighteen (headerQuestions h n) ≡ question3 h ∷ question4 h ∷ question5 h ∷ question6 h ∷ question7 n ∷ []
 three-to-seven h n = refl
 

@@ -9,14 +9,14 @@ use native.Mathlib.Nat.{le-of-mul-le-mul-right, le-div-iff-mul-le, div-lt-iff-lt
 use native.Mathlib.Omega.{arith}
 use lib.IntN.{ℤ, pos}
 use lib.Dec.{T, ltb, eqb, ltb→lt, lt→ltb, eqb→eq, eqb·suc-zero, T-not, lit≤, lit<}
-use lib.Ieee.{Float, nan, inf, fin, binary64, prec, up, down, round, ofInt, le, lt, eq, toUnsigned, add, mul, div}
+use lib.Ieee.{Float, nan, inf, fin, binary64, up, down, ofInt, le, lt, eq, toUnsigned, add, mul, div}
 use lib.Ieee.Fits.{down-pos}
 use lib.Ieee.Exact.{HasValue}
 use lib.Ieee.Back.{round-whole}
 use lib.Ieee.Order.{le-of-values}
 use Rattle.plan.specs.Doubles.{whole, atMost}
 use Rattle.plan.specs.Matrix.{firstColumn, lastColumn}
-use Rattle.plan.specs.Charge.{nested, chargeDouble, greatest, raised, thousandths}
+use Rattle.plan.specs.Charge.{chargeDouble, greatest, raised, thousandths}
 use Rattle.plan.proofs.Columns.{atColumns, at-column}
 
 -- ---- a whole number as a double

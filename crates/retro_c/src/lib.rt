@@ -1,5 +1,6 @@
 // The calls for C and for test programs: Rate, Table, Read, Write, guaranteed cost beside Rate and a charge of the 1965 table, on
-// numbers and slices, one match each. What a call gives is said in include/retro.h; each contract here is an equation with documents 01 and 02, refusals included.
+// numbers and slices, one match each. What a call gives is said in include/retro.h; each contract here is an equation with documents
+// 01 and 02, refusals included.
 ghost use mathlib.Core.Path.{_≡_};
 ghost use lib.ListN.{length};
 ghost use Rattle.plan.specs.Calls.{rate, Demand3After};

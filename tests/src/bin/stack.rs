@@ -4,8 +4,8 @@
 //!
 //! Each call runs on the largest file of either edition in a thread whose stack was filled with a
 //! pattern; what it used reaches from the place of the call down to the lowest byte that has
-//! changed. Charge takes no file and is run twice. For the program target/bin/retro it is the least limit, in steps of 4 KiB, under which
-//! it rates the file.
+//! changed. Charge takes no file and is run twice. For the program target/bin/retro it is the least
+//! limit, in steps of 4 KiB, under which it rates the file.
 
 use retro_tests::calls::{self, Numbers};
 use retro_tests::guard::{Guarded, Place};

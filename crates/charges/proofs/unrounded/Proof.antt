@@ -1,6 +1,6 @@
 -- `charges::unrounded` meets its contract: the nested formula, operation by operation. Assumes nothing.
 use borrow.Author.Needs.{needs}
-use mathlib.Core.Path.{_≡_, ap}
+use mathlib.Core.Path.{ap}
 use lib.Ieee.{Float}
 use Rattle.plan.specs.Doubles.{_+ᵈ_, _*ᵈ_, _/ᵈ_, whole}
 use Rattle.plan.specs.Charge.{chargeDouble, nested}
