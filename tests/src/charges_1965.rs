@@ -24,6 +24,25 @@ pub const COLUMNS: RangeInclusive<u32> = 36..=52;
 /// Usable r" of each of these columns.
 pub const ENTRY_RATIOS: RangeInclusive<u32> = 0..=500;
 
+/// Three columns at five entry ratios: column, entry ratio, thousandths, and the double by its bits.
+pub const FIFTEEN: [(u32, u32, u32, u64); 15] = [
+    (36, 0, 1_000, 0x3ff0_0000_0000_0000),
+    (36, 50, 593, 0x3fe2_fd37_2565_d4a1),
+    (36, 100, 360, 0x3fd7_0a3d_5fa1_c62e),
+    (36, 200, 148, 0x3fc2_e880_2ee0_99b1),
+    (36, 500, 27, 0x3f9b_c3fe_663d_ef2a),
+    (44, 0, 1_000, 0x3ff0_0000_0000_0000),
+    (44, 50, 638, 0x3fe4_6910_d877_b7c6),
+    (44, 100, 440, 0x3fdc_28f5_d1ad_a41b),
+    (44, 200, 232, 0x3fcd_bff4_5003_b341),
+    (44, 500, 58, 0x3fad_d66e_e611_f8ed),
+    (52, 0, 1_000, 0x3ff0_0000_0000_0000),
+    (52, 50, 687, 0x3fe5_fbcb_894c_833a),
+    (52, 100, 520, 0x3fe0_a3d7_0d97_0f20),
+    (52, 200, 334, 0x3fd5_5e6d_c7ff_f9b1),
+    (52, 500, 112, 0x3fbc_cb09_fcbc_ad4b),
+];
+
 /// Exhibit H: "Premium Group", then b2 to b8, a line for a line of the page.
 ///
 /// One text of the scan is corrected: b3 of .36 is "0,1534788" there, with a
@@ -444,24 +463,7 @@ mod tests {
     /// The thousandths and the double of three columns at five entry ratios.
     #[test]
     fn fifteen_charges() {
-        let expected = [
-            (36, 0, 1_000, 0x3ff0_0000_0000_0000),
-            (36, 50, 593, 0x3fe2_fd37_2565_d4a1),
-            (36, 100, 360, 0x3fd7_0a3d_5fa1_c62e),
-            (36, 200, 148, 0x3fc2_e880_2ee0_99b1),
-            (36, 500, 27, 0x3f9b_c3fe_663d_ef2a),
-            (44, 0, 1_000, 0x3ff0_0000_0000_0000),
-            (44, 50, 638, 0x3fe4_6910_d877_b7c6),
-            (44, 100, 440, 0x3fdc_28f5_d1ad_a41b),
-            (44, 200, 232, 0x3fcd_bff4_5003_b341),
-            (44, 500, 58, 0x3fad_d66e_e611_f8ed),
-            (52, 0, 1_000, 0x3ff0_0000_0000_0000),
-            (52, 50, 687, 0x3fe5_fbcb_894c_833a),
-            (52, 100, 520, 0x3fe0_a3d7_0d97_0f20),
-            (52, 200, 334, 0x3fd5_5e6d_c7ff_f9b1),
-            (52, 500, 112, 0x3fbc_cb09_fcbc_ad4b),
-        ];
-        for (column, entry_ratio, thousandths, bits) in expected {
+        for (column, entry_ratio, thousandths, bits) in FIFTEEN {
             let charge = charge(column, entry_ratio).unwrap();
             let found = (charge.thousandths, charge.charge.to_bits());
             assert_eq!(found, (thousandths, bits), ".{column} at {entry_ratio}");

@@ -326,23 +326,7 @@ fn an_answer_does_not_depend_on_what_the_numbers_held() {
 /// Three columns at five entry ratios: the thousandths and the double.
 #[test]
 fn fifteen_charges() {
-    for (column, entry_ratio, thousandths, bits) in [
-        (36, 0, 1_000, 0x3ff0_0000_0000_0000),
-        (36, 50, 593, 0x3fe2_fd37_2565_d4a1),
-        (36, 100, 360, 0x3fd7_0a3d_5fa1_c62e),
-        (36, 200, 148, 0x3fc2_e880_2ee0_99b1),
-        (36, 500, 27, 0x3f9b_c3fe_663d_ef2a),
-        (44, 0, 1_000, 0x3ff0_0000_0000_0000),
-        (44, 50, 638, 0x3fe4_6910_d877_b7c6),
-        (44, 100, 440, 0x3fdc_28f5_d1ad_a41b),
-        (44, 200, 232, 0x3fcd_bff4_5003_b341),
-        (44, 500, 58, 0x3fad_d66e_e611_f8ed),
-        (52, 0, 1_000, 0x3ff0_0000_0000_0000),
-        (52, 50, 687, 0x3fe5_fbcb_894c_833a),
-        (52, 100, 520, 0x3fe0_a3d7_0d97_0f20),
-        (52, 200, 334, 0x3fd5_5e6d_c7ff_f9b1),
-        (52, 500, 112, 0x3fbc_cb09_fcbc_ad4b),
-    ] {
+    for (column, entry_ratio, thousandths, bits) in charges_1965::FIFTEEN {
         let given = charge(column, entry_ratio);
         assert_eq!(given, Ok((bits, thousandths)), ".{column} at {entry_ratio}");
     }
