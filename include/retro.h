@@ -6,8 +6,9 @@
  * where it belongs to the same accident as the claim before it in that risk, else 0. The loss limit
  * applies to an accident's sum. In edition 1 a claim has no bit and is its own accident. Every call
  * on a file takes either edition. The calls rate such a file (retro_rate), rate it beside
- * guaranteed cost (retro_guaranteed), give the group's charge and savings at an entry ratio
- * (retro_table), take a file apart (retro_read) and make one (retro_write).
+ * guaranteed cost (retro_guaranteed), find the basic premium of a plan that is sold on premiums in
+ * place of marks (retro_plan), give the group's charge and savings at an entry ratio (retro_table),
+ * take a file apart (retro_read) and make one (retro_write).
  *
  * Before there are losses there is no file: for quotes retro_charge gives a charge of the 1965
  * Table M, which is the same for every group.
@@ -48,9 +49,12 @@
  *     19  Does the first claim of each risk open an accident: is its bit 0?
  *     20  Is the column from 36 to 52 hundredths?
  *     21  Is the entry ratio at most 500 hundredths?
+ *     22  Is the minimum premium at most the maximum premium?
+ *     23  Does a basic premium from 0 to 1,048,575 dollars reach the taxed expenses and losses?
  *
  *     retro_rate        asks 1 to 6, 18, 7 to 9, 19, 10 to 13
  *     retro_guaranteed  asks 1 to 6, 18, 7 to 9, 19, 10 to 13, then 16, then 17
+ *     retro_plan        asks 1 to 6, 18, 7 to 9, 19, 10, then 22, then 23
  *     retro_table       asks 1 to 6, 18, 7 to 9, 19, 10, then 14
  *     retro_read        asks 1 to 6, 18, 7 to 9, 19, then 13
  *     retro_write       asks 2 of the edition, 3 to 6, 18, 7, then 15, then 19, then 13
@@ -194,6 +198,56 @@ uint32_t retro_guaranteed(const uint8_t *file, size_t file_len, retro_schedule s
                           uint32_t *guaranteed, int64_t *difference);
 
 /*
+ * Finds the basic premium of a plan that is sold on premiums: the office chooses the maximum and the
+ * minimum premium of a risk, and the basic premium is the least with which the premiums of the group
+ * total at least its taxed expenses and losses.
+ *
+ *     maximum   is the maximum premium G in whole dollars, taxes included; any number.
+ *     minimum   is the minimum premium H in whole dollars, taxes included; at most G.
+ *     trials    is the number of trials that may be made; any number.
+ *     made      gets the number of trials made: trials, or 20 if that is less.
+ *     best      gets the best basic premium yet that reaches the total, in whole dollars a risk, 0 to
+ *               1,048,575.
+ *     short_of  gets the largest basic premium known to fall short of it, or -1 if none is.
+ *
+ * For a basic premium of B whole dollars the premium of a risk is, in dollars and not rounded,
+ *
+ *     T * (1,000 * n * B + Q + n * c * A) / (10,000,000 * n)
+ *
+ * and if that is below H it is H, and if above G it is G: the bounds hold the taxed premium. Here n
+ * is the number of risks, T the tax multiplier in ten-thousandths and c the loss conversion factor in
+ * thousandths. A is the risk's limited losses: its accidents, each cut to the loss limit where there
+ * is one. Q is the excess loss charge of the group in thousandths of a dollar, c times all that the
+ * limit cuts off. The sum of the premiums over all risks never falls as B grows. The total that it
+ * must reach is the taxed expenses and losses, T * (n * e + SL) / 10,000 dollars, where e is the
+ * expense provision of a risk and SL the sum of all claims, not limited. B reaches the total if the
+ * sum of its premiums is at least the total, and falls short of it if not; nothing is rounded.
+ *
+ * Whether 1,048,575 reaches the total is looked at first. That is no trial, so with trials 0 best is
+ * 1,048,575 and short_of -1. Each trial is made at the middle of the two, (best + short_of) / 2,
+ * which is a whole number, and the middle becomes best if it reaches the total and short_of if not.
+ * So after k trials best less short_of is 2^(20 - k). After twenty it is 1, the plan is finished, and
+ * no more are made: twenty trials always finish. In a finished plan best is the least basic premium
+ * of all, from 0 on, that reaches the total; and where best is above 0, the sum of its premiums is
+ * over the total by at most n * T / 10,000 dollars. Unlike those of retro_rate before they are
+ * rounded, the premiums of a plan need not come to the total exactly.
+ *
+ * The marks of the file are asked by 6 and 18, and its standard premium by 3; they are not used
+ * further, so that a change of them that passes these changes no plan.
+ *
+ * Two risks without limit, with losses of 0 and 20, have e 5, c 1,000 and T 10,000: their premiums
+ * are B and B + 20, and the total is 30. With G 4,294,967,295 and H 0, twenty trials give best 5 and
+ * short_of 4; with G 18 and H 0, 12 and 11; with G 18 and H 12, 0 and -1. G 14 is refused with 23.
+ *
+ * The refusals of the file come first, 1 to 10 with 18 after 6 and 19 after 9; then 22 where H is
+ * above G; then 23 where no basic premium from 0 to 1,048,575 reaches the total, whatever the trials.
+ * No other number is answered: 12 and 13 are not asked. After any of them made, best and short_of
+ * hold what they held.
+ */
+uint32_t retro_plan(const uint8_t *file, size_t file_len, uint32_t maximum, uint32_t minimum,
+                    uint32_t trials, uint32_t *made, uint32_t *best, int32_t *short_of);
+
+/*
  * Gives the charge and the savings of a group's own Table M at an entry ratio.
  *
  *     entry_ratio  is in hundredths, 0 to 600.
@@ -235,8 +289,8 @@ retro_group retro_read(const uint8_t *file, size_t file_len, uint8_t *counts, si
  *              file keep their contents.
  *     length   gets the number of bytes of the file.
  *
- * The file may yet be refused with 10 or 12 by retro_rate and retro_guaranteed, and with 10 by
- * retro_table.
+ * The file may yet be refused with 10 or 12 by retro_rate and retro_guaranteed, with 10 by
+ * retro_table, and by retro_plan with 10, or with 23 where the maximum premium is too low.
  */
 uint32_t retro_write(uint32_t edition, retro_header header, const uint8_t *counts,
                      size_t counts_len, const uint32_t *claims, size_t claims_len,

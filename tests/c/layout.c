@@ -61,9 +61,16 @@ static uint32_t (*const beside)(const uint8_t *, size_t, retro_schedule, uint8_t
                                 int64_t *, size_t, uint32_t *, uint64_t *, uint64_t *, uint64_t *,
                                 uint32_t *, uint32_t *, int64_t *) = retro_guaranteed;
 static uint32_t (*const quote)(uint32_t, uint32_t, double *, uint32_t *) = retro_charge;
+static uint32_t (*const sell)(const uint8_t *, size_t, uint32_t, uint32_t, uint32_t, uint32_t *,
+                              uint32_t *, int32_t *) = retro_plan;
+
+/* One risk with a claim of 1 and an expense provision of 5: c is 1.000, T 1.0000, without limit. */
+static const uint8_t one_risk[20] = {0x10, 0x00, 0x00, 0x00, 0x00, 0x04, 0x00, 0x01, 0x5f, 0x42,
+                                     0x71, 0x00, 0x00, 0x00, 0x00, 0x02, 0x04, 0x00, 0x00, 0x40};
 
 /* Each call on a file is given nothing, with null pointers where the count is 0. A charge is
-   refused with 20 and 21, which leaves the numbers as they were, and then given. */
+   refused with 20 and 21, and a plan with 22 and 23, which leaves the numbers as they were, and then
+   given. */
 int main(void)
 {
     uint32_t risks = 0, charge = 0, savings = 0, discount = 0, guaranteed = 0, thousandths = 7;
@@ -97,6 +104,18 @@ int main(void)
         quote(52, 501, &unrounded, &thousandths) != 21 || unrounded != -7.5 || thousandths != 7 ||
         quote(50, 100, &unrounded, &thousandths) != 0 || unrounded != 0.5 || thousandths != 500) {
         return 6;
+    }
+    uint32_t made = 7, best = 8;
+    int32_t short_of = 9;
+    if (sell(NULL, 0, 9, 1, 20, &made, &best, &short_of) != 1 ||
+        sell(one_risk, sizeof one_risk, 5, 6, 20, &made, &best, &short_of) != 22 ||
+        sell(one_risk, sizeof one_risk, 5, 5, 20, &made, &best, &short_of) != 23 || made != 7 ||
+        best != 8 || short_of != 9 ||
+        sell(one_risk, sizeof one_risk, 6, 0, 20, &made, &best, &short_of) != 0 || made != 20 ||
+        best != 5 || short_of != 4 ||
+        sell(one_risk, sizeof one_risk, 6, 6, 3, &made, &best, &short_of) != 0 || made != 3 ||
+        best != 131071 || short_of != -1) {
+        return 7;
     }
     return 0;
 }

@@ -1,8 +1,9 @@
 #!/usr/bin/env bash
 # Builds the programs in C against target/staticlib/libretro_c.a and runs them: layout, what retro.h
-# promises; round_trip, Write and Read of the four-risk group in either edition; billing, guaranteed
-# and charges, which are held to tests/c/*.expected, whose figures are the second rater's, and for
-# charges those of tests/src/charges_1965.rs. Any failure exits non-zero.
+# promises; round_trip, Write and Read of the four-risk group in either edition; billing, guaranteed,
+# charges and plan, which are held to tests/c/*.expected, whose figures are the second rater's, for
+# charges those of tests/src/charges_1965.rs, and for plan those of tests/src/plans.rs. Any failure
+# exits non-zero.
 set -euo pipefail
 export LC_ALL=C
 cd "$(dirname "$0")/../.."
@@ -22,11 +23,12 @@ gcc -std=c11 -O2 "${strict[@]}" tests/c/round_trip.c "$archive" -o "$built/round
 gcc -std=c11 -O2 "${strict[@]}" tests/c/billing.c "$archive" -o "$built/billing"
 gcc -std=c11 -O2 "${strict[@]}" tests/c/guaranteed.c "$archive" -o "$built/guaranteed"
 gcc -std=c11 -O2 "${strict[@]}" tests/c/charges.c "$archive" -o "$built/charges"
+gcc -std=c11 -O2 "${strict[@]}" tests/c/plan.c "$archive" -o "$built/plan"
 
 for language in layout layout++; do
     "$built/$language" || { echo "$language: call $? has another answer" >&2; exit 1; }
 done
-echo "layout: 6 calls linked and run as C11 and as C++11: as expected"
+echo "layout: 7 calls linked and run as C11 and as C++11: as expected"
 "$built/round_trip"
 
 # ran STATUS PROGRAM ARGUMENT..: runs the program, which must end with that status.
@@ -148,3 +150,44 @@ failure charges-usage 3 charges 44 99999999999999999999
 unprinted charges 44 150
 
 echo "charges: 9 shown, 6 refused, 9 wrong usages, 1 unprinted: as expected"
+
+# Plans of the four-risk group, of others, and of a file that Rate refuses with 12: bounds in effect,
+# without effect and equal, numbers of trials, and either edition.
+for terms in 'four-risks 13020 4935' 'four-risks 13020 4935 20' 'four-risks 12000 5000' \
+    'four-risks 4294967295 0' 'four-risks 8400 8400' 'four-risks 8400 0' 'four-risks 13020 4935 0' \
+    'four-risks 13020 4935 1' 'four-risks 13020 4935 10' 'four-risks 13020 4935 19' \
+    'four-risks 13020 4935 21' 'four-risks 13020 4935 4294967295' 'ten-risks 13740 4640' \
+    'scaffold 4294967295 3885' 'entry-ratio 65116 32190' 'largest 29114763 5143172' \
+    'refused-12 4294967295 0'; do
+    read -r -a words <<<"$terms"
+    ran 0 plan "examples/${words[0]}.group" "${words[@]:1}"
+    diff /dev/null "$built/said"
+    cat "$built/printed"
+done >"$built/planned"
+diff tests/c/plan.expected "$built/planned"
+
+# 22, also where 23 would follow; 23, also without trials; and each question of a file before them.
+for terms in 'four-risks 4935 13020' 'four-risks 8398 8399' 'four-risks 8399 0' \
+    'four-risks 8399 8399 0' 'four-risks 0 4294967295 0' 'refused-01 0 1' 'refused-02 0 1' \
+    'refused-03 0 1' 'refused-04 0 1' 'refused-05 0 1' 'refused-06 0 1' 'refused-18 0 1' \
+    'refused-07 0 1' 'refused-08 0 1' 'refused-09 0 1' 'refused-19 0 1' 'refused-10 0 1'; do
+    read -r -a words <<<"$terms"
+    ran 1 plan "examples/${words[0]}.group" "${words[@]:1}"
+    diff /dev/null "$built/printed"
+    cat "$built/said"
+done >"$built/refused"
+diff tests/c/plan-refused.expected "$built/refused"
+
+failure plan-usage 3 plan
+failure plan-usage 3 plan "$file"
+failure plan-usage 3 plan "$file" 13020
+failure plan-usage 3 plan "$file" 13020 4935 20 1
+failure plan-usage 3 plan "$file" 13020.50 4935
+failure plan-usage 3 plan "$file" 13020 -1
+failure plan-usage 3 plan "$file" 13020 4935 ''
+failure plan-usage 3 plan "$file" 4294967296 4935
+failure plan-usage 3 plan "$file" 13020 4935 99999999999999999999
+failure plan-missing 2 plan examples/no-such-file.group 13020 4935
+unprinted plan "$file" 13020 4935
+
+echo "plan: 17 shown, 17 refused, 1 unreadable, 9 wrong usages, 1 unprinted: as expected"

@@ -254,6 +254,16 @@ pub mod raw {
             charge: *mut f64,
             thousandths: *mut u32,
         ) -> u32;
+        pub fn retro_plan(
+            file: *const u8,
+            file_len: usize,
+            maximum: u32,
+            minimum: u32,
+            trials: u32,
+            made: *mut u32,
+            best: *mut u32,
+            short_of: *mut i32,
+        ) -> u32;
     }
 }
 
@@ -366,6 +376,32 @@ pub fn write(
 pub fn charge(column: u32, entry_ratio: u32, charge: &mut f64, thousandths: &mut u32) -> u32 {
     // SAFETY: as in `rate`.
     unsafe { raw::retro_charge(column, entry_ratio, charge, thousandths) }
+}
+
+/// Plan: 0, or the number of the first question that the file or the maximum and minimum premium
+/// fail.
+pub fn plan(
+    file: &[u8],
+    maximum: u32,
+    minimum: u32,
+    trials: u32,
+    made: &mut u32,
+    best: &mut u32,
+    short_of: &mut i32,
+) -> u32 {
+    // SAFETY: as in `rate`.
+    unsafe {
+        raw::retro_plan(
+            file.as_ptr(),
+            file.len(),
+            maximum,
+            minimum,
+            trials,
+            made,
+            best,
+            short_of,
+        )
+    }
 }
 
 /// What Rate gives: n, M, Q and the sum billed, and the premiums.

@@ -4,6 +4,7 @@
 use crate::calls::{self, Numbers};
 use crate::generator::Random;
 use crate::peers::{self, AcceptedFile, AcceptedGroup, Form, Premiums, Written};
+use crate::plans::{self, Books, LARGEST_BASIC, TRIALS_THAT_FINISH};
 use crate::samples::{stock, Sample, Values};
 use crate::second_rater::{self, Header, LARGEST_FILE, MOST_RISKS};
 use crate::straightforward;
@@ -24,6 +25,9 @@ pub enum Call {
     TunedWriter(Form),
     Guaranteed,
     SecondRatersGuaranteed,
+    Plan,
+    PlanWithoutTrials,
+    SecondPlan,
 }
 
 impl Call {
@@ -43,6 +47,9 @@ impl Call {
             Call::TunedWriter(Form::WithVectors) => "tuned writer with vectors",
             Call::Guaranteed => "Guaranteed",
             Call::SecondRatersGuaranteed => "second rater's Guaranteed",
+            Call::Plan => "Plan",
+            Call::PlanWithoutTrials => "Plan without trials",
+            Call::SecondPlan => "second computation of Plan",
         }
     }
 
@@ -103,10 +110,12 @@ pub fn group_of_edition_2(risks: usize, claims: usize, joined: Joined) -> Sample
     }
 }
 
-/// A group as it is handed to the calls: its file, and its values for Write.
+/// A group as it is handed to the calls: its file, its values for Write, and a maximum and a minimum
+/// premium for Plan.
 pub struct Case {
     file: Vec<u8>,
     values: Values,
+    bounds: (u32, u32),
     /// The same for the peers, in edition 1.
     for_peers: Option<(AcceptedFile, AcceptedGroup)>,
 }
@@ -119,6 +128,7 @@ impl Case {
         let accepted = AcceptedGroup::new(sample.header, &sample.counts(), &sample.claims());
         Case {
             values: sample.values(),
+            bounds: bounds(&file),
             for_peers: Some((AcceptedFile::new(&file), accepted)),
             file,
         }
@@ -127,10 +137,12 @@ impl Case {
     /// The group of `group_of_edition_2`, which no peer takes.
     pub fn of_edition_2(risks: usize, claims: usize, joined: Joined) -> Case {
         let sample = group_of_edition_2(risks, claims, joined);
+        let file = sample.file();
         Case {
-            file: sample.file(),
             values: sample.values(),
+            bounds: bounds(&file),
             for_peers: None,
+            file,
         }
     }
 
@@ -142,6 +154,20 @@ impl Case {
     /// The file and the values for a peer.
     fn for_peers(&self) -> &(AcceptedFile, AcceptedGroup) {
         self.for_peers.as_ref().expect("a peer takes edition 1")
+    }
+}
+
+/// A maximum and a minimum premium of a group, a 25th above and below the mean that reaches the
+/// total, so that of many risks some are held by them and some are not. No maximum is in effect
+/// where with it the total is out of reach.
+pub fn bounds(file: &[u8]) -> (u32, u32) {
+    let books = Books::of(file).expect("an accepted file");
+    let mean = books.target() / (books.dollar() * books.risks);
+    let mean = u32::try_from(mean).expect("a premium has 32 bits");
+    let (maximum, minimum) = (mean + mean / 25, mean - mean / 25);
+    match books.reaches(LARGEST_BASIC, maximum, minimum) {
+        true => (maximum, minimum),
+        false => (u32::MAX, minimum),
     }
 }
 
@@ -242,6 +268,13 @@ impl Desk {
                 let given = second_rater::guaranteed(file, &schedule, rooms.0, rooms.1);
                 black_box(given).is_ok()
             }
+            Call::Plan => plan(case, TRIALS_THAT_FINISH),
+            Call::PlanWithoutTrials => plan(case, 0),
+            Call::SecondPlan => {
+                let (maximum, minimum) = black_box(case.bounds);
+                let (file, trials) = (black_box(case.file()), black_box(TRIALS_THAT_FINISH));
+                black_box(plans::plan(file, maximum, minimum, trials)).is_ok()
+            }
         };
         assert!(accepted);
     }
@@ -274,6 +307,23 @@ impl Desk {
         black_box(numbers);
         answer == 0
     }
+}
+
+/// Plan with so many trials by the exported call.
+fn plan(case: &Case, trials: u32) -> bool {
+    let (mut made, mut best, mut short_of) = (0, 0, 0);
+    let (maximum, minimum) = black_box(case.bounds);
+    let answer = calls::plan(
+        black_box(case.file()),
+        maximum,
+        minimum,
+        black_box(trials),
+        &mut made,
+        &mut best,
+        &mut short_of,
+    );
+    black_box((made, best, short_of));
+    answer == 0
 }
 
 /// So many zeros, outside the stack.

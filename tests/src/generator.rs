@@ -1,6 +1,7 @@
-//! Generated groups, damaged files, values for Write and schedules, with the corners of every field
-//! more often than chance has them.
+//! Generated groups, damaged files, values for Write, schedules and terms of plans, with the corners
+//! of every field more often than chance has them.
 
+use crate::plans::Books;
 use crate::samples::{accidents, ranges, Sample, Values, AMPLE};
 use crate::second_rater::{self, Header, Layer};
 
@@ -164,6 +165,18 @@ fn thousandths(schedule: &[Layer; 4], standard_premium: u32) -> u64 {
         .sum()
 }
 
+/// What Plan is given, sound or not.
+#[derive(Clone, Debug)]
+pub struct Terms {
+    pub file: Vec<u8>,
+    /// G, the maximum premium in dollars.
+    pub maximum: u32,
+    /// H, the minimum premium in dollars.
+    pub minimum: u32,
+    /// The number of trials given.
+    pub trials: u32,
+}
+
 /// Gives values as many claims and bits as their counts add to.
 fn follow_the_counts(values: &mut Values) {
     let sum = values.counts.iter().map(|&count| usize::from(count)).sum();
@@ -245,7 +258,12 @@ impl Random {
 
     /// A group that passes questions 1 to 9, 18 and 19, of either edition.
     pub fn group(&mut self) -> Sample {
-        let mut risks = self.risks();
+        let risks = self.risks();
+        self.group_of(risks)
+    }
+
+    /// The same of risks with these claims, of which some may become others.
+    fn group_of(&mut self, mut risks: Vec<Vec<u32>>) -> Sample {
         let in_edition_2 = self.one_in(2);
         let joined = match in_edition_2 {
             true => self.joined(&risks),
@@ -310,6 +328,13 @@ impl Random {
             risks.push(claims.collect());
         }
         risks
+    }
+
+    /// Claims with nearly the largest sums: 63 large ones for each of 200 risks or more.
+    fn heavy_risks(&mut self) -> Vec<Vec<u32>> {
+        let n = self.between(200, 255);
+        let mut of_risk = || (0..63).map(|_| self.between(900_000, LARGEST)).collect();
+        (0..n).map(|_| of_risk()).collect()
     }
 
     /// The bits of each risk's claims: none set, all but the first, accidents of equal lengths,
@@ -746,6 +771,120 @@ impl Random {
         schedule[self.within(0, 2)].width = 0;
         if self.one_in(4) {
             schedule[self.within(0, 3)].width = 0;
+        }
+    }
+
+    // ---- plans sold on premiums
+
+    /// A file, sound or damaged, with a maximum and a minimum premium for its group and a number of
+    /// trials.
+    pub fn terms(&mut self) -> Terms {
+        let mut file = match self.between(0, 399) {
+            0 => {
+                let risks = self.heavy_risks();
+                self.group_of(risks).file()
+            }
+            1..=200 => self.file(),
+            _ => self.group().file(),
+        };
+        // beside a fault of the file the minimum is above the maximum about as often as not
+        let (mut bounds, crossed) = match Books::of(&file) {
+            Ok(books) => (self.bounds(&books), self.one_in(8)),
+            Err(_) => (self.any_bounds(), self.one_in(2)),
+        };
+        if self.one_in(3) {
+            self.bring_target_near_a_total(&mut file, bounds);
+        }
+        if crossed {
+            bounds = self.crossed_bounds(bounds);
+        }
+        Terms {
+            file,
+            maximum: bounds.0,
+            minimum: bounds.1,
+            trials: self.trials(),
+        }
+    }
+
+    /// A maximum and a minimum premium, in their order: without effect, at premiums that the risks
+    /// have for some basic premium, at the mean premium that reaches the total, or any two.
+    fn bounds(&mut self, books: &Books) -> (u32, u32) {
+        let basic = match self.between(0, 4) {
+            0 => 0,
+            1 | 2 => self.of_any_size(20),
+            _ => books.least_directly(u32::MAX, 0).unwrap_or(0),
+        };
+        let mean = books.target() / (books.dollar() * books.risks);
+        let (one, other) = match self.between(0, 11) {
+            0 | 1 => (u32::MAX, 0),
+            2..=4 => (self.premium(books, basic), self.premium(books, basic)),
+            5 | 6 => (self.premium(books, basic), 0),
+            7 => (self.premium(books, basic), u32::MAX),
+            8 => {
+                let mean = self.beside(mean);
+                (mean, mean)
+            }
+            9 => (self.beside(mean), self.premium(books, basic)),
+            10 => (self.beside(mean), self.one_of(&[0, u32::MAX])),
+            _ => self.any_bounds(),
+        };
+        (one.max(other), one.min(other))
+    }
+
+    /// Any maximum and minimum premium, in their order.
+    fn any_bounds(&mut self) -> (u32, u32) {
+        let [one, other] = [0, 1].map(|_| match self.between(0, 4) {
+            0 => self.one_of(&[0, 1, u32::MAX]),
+            _ => self.of_any_size(32),
+        });
+        (one.max(other), one.min(other))
+    }
+
+    /// A minimum premium above the maximum premium: these exchanged, a dollar apart, or far apart.
+    fn crossed_bounds(&mut self, (maximum, minimum): (u32, u32)) -> (u32, u32) {
+        let smaller = maximum.min(u32::MAX - 1);
+        match self.between(0, 3) {
+            0 => (smaller, smaller + 1),
+            1 => (minimum.min(u32::MAX - 1), u32::MAX),
+            _ if minimum < maximum => (minimum, maximum),
+            _ => (0, maximum.max(1)),
+        }
+    }
+
+    /// The premium of one of the risks for a basic premium, in whole dollars, or a dollar beside.
+    fn premium(&mut self, books: &Books, basic: u32) -> u32 {
+        let limited = self.one_of(&books.limited);
+        self.beside(books.not_held(basic, limited) / books.dollar())
+    }
+
+    /// These dollars, or a dollar less or more.
+    fn beside(&mut self, dollars: u128) -> u32 {
+        let dollars = u32::try_from(dollars).expect("a premium has 32 bits");
+        self.one_of(&[dollars, dollars, dollars.saturating_sub(1), dollars + 1])
+    }
+
+    /// Sets the expense provision so that the taxed expenses and losses come near the total of the
+    /// premiums for some basic premium, where the file has premiums.
+    fn bring_target_near_a_total(&mut self, file: &mut [u8], (maximum, minimum): (u32, u32)) {
+        let Ok(books) = Books::of(file) else {
+            return;
+        };
+        let total = books.total(self.of_any_size(20), maximum, minimum);
+        let untaxed = total / (1_000 * books.risks * books.tax);
+        let expense = untaxed.saturating_sub(books.sum_total) / books.risks;
+        let expense = expense.min(LARGEST.into()) as u32 + self.between(0, 1);
+        set(file, EXPENSE, expense.min(LARGEST));
+    }
+
+    /// A number of trials, some above 20 with a smaller one in their low bits.
+    fn trials(&mut self) -> u32 {
+        let few = self.between(0, 20);
+        match self.between(0, 9) {
+            0 => self.one_of(&[0, 1, 19, 20, 21, 22]),
+            1 => self.one_of(&[32, 63, 64, 127, 255, 256, 65_535, 65_536, 1 << 31, u32::MAX]),
+            2 => few | 1 << self.between(5, 31),
+            3 | 4 => 20,
+            _ => few,
         }
     }
 

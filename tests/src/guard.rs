@@ -46,6 +46,7 @@ pub trait Number: Copy {}
 impl Number for u8 {}
 impl Number for u32 {}
 impl Number for u64 {}
+impl Number for i32 {}
 impl Number for i64 {}
 impl Number for usize {}
 impl Number for f64 {}

@@ -1,15 +1,16 @@
-//! The exported calls held to the second rater, and Charge to `charges_1965`: every number and
-//! every byte, after answers and after refusals.
+//! The exported calls held to the second rater, Charge to `charges_1965` and Plan to `plans`: every
+//! number and every byte, after answers and after refusals.
 //!
 //! Each call is made twice, Charge so for each of seven lent doubles, with everything it is lent
-//! against the unreadable page before it and against the one after it. What is lent is preset, so that a part that must keep its contents is
-//! seen to keep them.
+//! against the unreadable page before it and against the one after it. What is lent is preset, so
+//! that a part that must keep its contents is seen to keep them.
 
 use crate::calls::{self, Group, Lent, Numbers};
 use crate::charges_1965;
 use crate::generator::{get, EDITION};
 use crate::guard::{Guarded, PLACES};
-use crate::samples::{schedules, Values};
+use crate::plans::{self, Plan};
+use crate::samples::{bounds, schedules, Values};
 use crate::second_rater::{self, Guaranteed, Layer, Rated};
 use std::fmt;
 
@@ -47,6 +48,19 @@ const DOUBLES: [u64; 7] = [
     0x7ff8_0bad_cafe_f00d,
     0xfff4_dead_beef_0001,
 ];
+/// The numbers that Plan is lent in either place: the second have no bit of the first.
+const PLANNED: [Plan; 2] = [
+    Plan {
+        made: 0x3c4d_5e6f,
+        best: 0x9e8d_7c6b,
+        short_of: 0x2b3a_4958,
+    },
+    Plan {
+        made: !0x3c4d_5e6f,
+        best: !0x9e8d_7c6b,
+        short_of: !0x2b3a_4958,
+    },
+];
 
 /// Byte k of a buffer before a call.
 fn preset_byte(k: usize) -> u8 {
@@ -68,7 +82,7 @@ fn preset_difference(k: usize) -> i64 {
     (k as i64).wrapping_mul(0x9e37_79b9_7f4a_7c15u64 as i64) ^ 0x0ddb_a115_dead_beef
 }
 
-/// The calls: those of document 01 in its order, then those of document 02's jobs 1 and 5.
+/// The calls: those of document 01 in its order, then those of document 02's jobs 1, 5 and 6.
 #[derive(Clone, Copy, Debug, PartialEq, Eq)]
 pub enum Call {
     Rate,
@@ -77,6 +91,7 @@ pub enum Call {
     Write,
     Guaranteed,
     Charge,
+    Plan,
 }
 
 /// The calls of document 01.
@@ -94,6 +109,7 @@ impl Call {
             Call::Write => &[0, 2, 3, 4, 5, 6, 18, 7, 15, 19, 13],
             Call::Guaranteed => &[0, 1, 2, 3, 4, 5, 6, 18, 7, 8, 9, 19, 10, 12, 13, 16, 17],
             Call::Charge => &[0, 20, 21],
+            Call::Plan => &[0, 1, 2, 3, 4, 5, 6, 18, 7, 8, 9, 19, 10, 22, 23],
         }
     }
 
@@ -121,7 +137,7 @@ impl Call {
 /// How often each call gave each answer, where 0 is an acceptance, to files and values of edition
 /// 1, of edition 2, and of another or of none, which are in the first place.
 #[derive(Clone, Default)]
-pub struct Counts([[[u64; 22]; 6]; 3]);
+pub struct Counts([[[u64; 24]; 7]; 3]);
 
 impl Counts {
     /// Counts an answer, which must be one that the call can give.
@@ -189,7 +205,7 @@ impl Counts {
                 lines += &format!("{:>8}", format!("ed. {edition}"));
             }
         }
-        for answer in 0..22 {
+        for answer in 0..24 {
             let gives = |call: &Call| call.answers().contains(&answer);
             if !calls.iter().any(gives) {
                 continue;
@@ -231,6 +247,9 @@ pub struct HeldCalls {
     difference: Guarded<i64>,
     charge: Guarded<f64>,
     thousandths: Guarded<u32>,
+    made: Guarded<u32>,
+    best: Guarded<u32>,
+    short_of: Guarded<i32>,
     pub given: Counts,
 }
 
@@ -258,6 +277,9 @@ impl HeldCalls {
             difference: Guarded::new(1),
             charge: Guarded::new(1),
             thousandths: Guarded::new(1),
+            made: Guarded::new(1),
+            best: Guarded::new(1),
+            short_of: Guarded::new(1),
             given: Counts::default(),
         }
     }
@@ -502,8 +524,37 @@ impl HeldCalls {
         answer
     }
 
-    /// Each call on a file gives this question: where its buffers, entry ratio and schedule are
-    /// sound, and where each of them fails 13, 14, 16 or 17.
+    /// Plan of a file under a maximum and a minimum premium, with so many trials. Gives the answer,
+    /// which both computations gave.
+    pub fn plan(&mut self, file: &[u8], maximum: u32, minimum: u32, trials: u32) -> u32 {
+        let planned = plans::plan(file, maximum, minimum, trials);
+        let answer = planned.err().unwrap_or(0);
+        for (place, before) in PLACES.into_iter().zip(PLANNED) {
+            let lent = self.file.copy(file, place);
+            let made = self.made.number(before.made, place);
+            let best = self.best.number(before.best, place);
+            let short_of = self.short_of.number(before.short_of, place);
+            let given = calls::plan(lent, maximum, minimum, trials, made, best, short_of);
+            let about = || {
+                let bounds = format!("maximum {maximum}, minimum {minimum}");
+                let given = format!("{bounds}, {trials} trials, {before:?} lent");
+                format!("Plan, {given}, {place:?}, {}", Bytes(file))
+            };
+            same(given, answer, "answer", about);
+            let given = Plan {
+                made: *made,
+                best: *best,
+                short_of: *short_of,
+            };
+            same(given, planned.unwrap_or(before), "plan", about);
+            same(&*lent, file, "file after the call", about);
+        }
+        self.given.add(Call::Plan, get(file, EDITION), answer);
+        answer
+    }
+
+    /// Each call on a file gives this question: where its buffers, entry ratio, schedule and bounds
+    /// are sound, and where each of them fails 13, 14, 16, 17, 22 or 23.
     #[track_caller]
     pub fn all_give(&mut self, file: &[u8], question: u32) {
         for room in [BYTES, 3, 0] {
@@ -517,6 +568,12 @@ impl HeldCalls {
         }
         for entry_ratio in [0, 100, 600, 601, u32::MAX] {
             assert_eq!(self.table(file, entry_ratio), question, "{file:02x?}");
+        }
+        for (maximum, minimum) in bounds() {
+            for trials in [20, 0, u32::MAX] {
+                let answer = self.plan(file, maximum, minimum, trials);
+                assert_eq!(answer, question, "{file:02x?}");
+            }
         }
         for (counts, claims, joined) in [
             (ENTRIES, ENTRIES, ENTRIES),

@@ -1,24 +1,28 @@
 //! What is tested beside the proofs: the exported calls from outside, held to a second rater.
 //!
-//! - `calls`: the six exported calls of target/staticlib/libretro_c.a.
+//! - `calls`: the seven exported calls of target/staticlib/libretro_c.a.
 //! - `second_rater`: the second rater, written from documents 01 and 02 alone.
 //! - `charges_1965`: the charges of the 1965 table, from document 02 and source document 003 alone.
+//! - `plans`: plans sold on premiums, from documents 01 and 02 alone.
 //! - `straightforward`: a rater for Rate alone, the benchmark's baseline.
 //! - `peers`: the tuned rater, reader and writer in C that the benchmark measures beside the calls.
 //! - `desk`: the benchmark's groups and buffers, and the calls on them.
-//! - `samples` and `generator`: known groups and schedules, generated groups and schedules, and
-//!   damaged files.
+//! - `samples` and `generator`: known groups, schedules and bounds, generated ones, and damaged
+//!   files.
 //! - `text`: the text of a group, for people.
 //! - `guard` and `held_calls`: memory between unreadable pages, and the calls held to the second
-//!   rater, or to `charges_1965`, in it.
+//!   rater, to `charges_1965` or to `plans`, in it.
+//! - `comparison`: many generated inputs on all cores.
 
 pub mod calls;
 pub mod charges_1965;
+pub mod comparison;
 pub mod desk;
 pub mod generator;
 pub mod guard;
 pub mod held_calls;
 pub mod peers;
+pub mod plans;
 pub mod samples;
 pub mod second_rater;
 pub mod straightforward;

@@ -430,3 +430,15 @@ pub fn schedules() -> [[Layer; 4]; 5] {
         schedule([(5_000, 0), (95_000, 109), (0, u32::MAX), (0, 144)]),
     ]
 }
+
+/// Maximum and minimum premiums, in this order: of a group with losses they fail no question, 23,
+/// 22, 22 where 23 would follow, and 22 by the most.
+pub fn bounds() -> [(u32, u32); 5] {
+    [
+        (u32::MAX, 0),
+        (0, 0),
+        (u32::MAX - 1, u32::MAX),
+        (0, 1),
+        (0, u32::MAX),
+    ]
+}

@@ -787,7 +787,7 @@ fn first_claims_joined_with_1_to_9_and_18_give_the_other() {
 
 #[test]
 fn first_claims_joined_with_10_12_and_later_give_19() {
-    // all_give has 13, 14, 16 and 17 as well
+    // all_give has 13, 14, 16, 17, 22 and 23 as well
     let mut held_calls = HeldCalls::new();
     let no_losses = Sample {
         risks: vec![vec![0], vec![], vec![0, 0]],

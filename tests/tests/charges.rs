@@ -4,9 +4,9 @@
 
 use retro_tests::calls;
 use retro_tests::charges_1965::{self, pairs, within, within_a_millionth, COLUMNS, ENTRY_RATIOS};
+use retro_tests::comparison::say;
 use retro_tests::generator::Random;
 use retro_tests::held_calls::{Call, HeldCalls};
-use std::io::{self, Write};
 use std::time::Instant;
 
 /// Charges of the table.
@@ -95,11 +95,6 @@ fn thousandths(column: u32, entry_ratio: u32) -> u32 {
 /// The unrounded charge.
 fn unrounded(column: u32, entry_ratio: u32) -> f64 {
     f64::from_bits(charge(column, entry_ratio).unwrap().0)
-}
-
-/// Prints a line that the test harness does not hold back.
-fn say(line: &str) {
-    writeln!(io::stdout(), "{line}").expect("standard output");
 }
 
 // ---- the comparison

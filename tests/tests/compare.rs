@@ -9,20 +9,20 @@
 //!     RETRO_FILES=5000000 RETRO_SEED=7 cargo test --offline --release --test compare -- generated
 
 use retro_tests::calls::{self, raw, Group, Numbers};
+use retro_tests::comparison::{about_half_in_either_edition, compare_in_threads, say, setting};
 use retro_tests::generator::{
     first_bits, risks_in, set, Random, EDITION, MINIMUM_MARK, STANDARD_PREMIUM,
 };
 use retro_tests::guard::Sparse;
-use retro_tests::held_calls::{Call, Counts, HeldCalls, CALLS};
+use retro_tests::held_calls::{Call, HeldCalls, CALLS};
 use retro_tests::samples::{
     accidents_cut, crossed_marks, four_risks, largest, largest_of_edition_2, one_claim_of_one,
     scaffold, schedule, stock, ten_risks, two_risks_of_ten, Sample, Values,
 };
 use retro_tests::second_rater::{self, Header, Layer};
-use std::io::{self, Write};
+use std::ptr;
 use std::sync::atomic::{AtomicU64, Ordering};
 use std::time::Instant;
-use std::{env, ptr, thread};
 
 /// Files in the gate.
 const FILES: u64 = 400_000;
@@ -30,27 +30,10 @@ const FILES: u64 = 400_000;
 const QUOTES: u64 = 240_000;
 /// The seed in the gate.
 const SEED: u64 = 1_965;
-/// Files from one state of the generator, so that the files do not depend on the number of threads.
-const BATCH: u64 = 500;
 /// How often each answer of each call must occur at least.
 const LEAST: u64 = 100;
 /// How often each answer of Guaranteed must occur at least, and a discount at an exact half.
 const LEAST_OF_QUOTES: u64 = 500;
-
-/// A number from the environment in decimal digits, or the gate's.
-fn setting(name: &str, gate: u64) -> u64 {
-    match env::var(name) {
-        Ok(text) => text
-            .parse()
-            .unwrap_or_else(|_| panic!("{name} must be a whole number, not {text}")),
-        Err(_) => gate,
-    }
-}
-
-/// Prints a line that the test harness does not hold back.
-fn say(line: &str) {
-    writeln!(io::stdout(), "{line}").expect("standard output");
-}
 
 #[test]
 fn generated_files() {
@@ -83,16 +66,6 @@ fn generated_files() {
     }
 }
 
-/// Between two and three fifths of what the call accepted is of edition 2.
-fn about_half_in_either_edition(counts: &Counts, call: Call) {
-    let [of_1, of_2] = [1, 2].map(|edition| counts.of_edition(edition, call, 0));
-    let fifth = (of_1 + of_2) / 5;
-    assert!(
-        (2 * fifth..=3 * fifth).contains(&of_2),
-        "{call:?} accepted {of_1} of edition 1 and {of_2} of edition 2"
-    );
-}
-
 #[test]
 fn generated_schedules() {
     let files = setting("RETRO_FILES", QUOTES);
@@ -123,47 +96,6 @@ fn generated_schedules() {
     );
     assert!(halves >= LEAST_OF_QUOTES, "{halves} exact halves");
     about_half_in_either_edition(&counts, Call::Guaranteed);
-}
-
-/// Makes so many comparisons, in whole batches, on all cores. Gives how often each call gave each
-/// answer.
-fn compare_in_threads(
-    comparisons: u64,
-    seed: u64,
-    compare: impl Fn(&mut HeldCalls, &mut Random) + Sync,
-) -> Counts {
-    let batches = comparisons.div_ceil(BATCH);
-    let next = AtomicU64::new(0);
-    let mut counts = Counts::default();
-    thread::scope(|scope| {
-        let workers: Vec<_> = (0..thread::available_parallelism().map_or(1, usize::from))
-            .map(|_| scope.spawn(|| compare_batches(&next, batches, seed, &compare)))
-            .collect();
-        for worker in workers {
-            counts.merge(&worker.join().expect("a difference"));
-        }
-    });
-    counts
-}
-
-/// Takes batches until there are none left.
-fn compare_batches(
-    next: &AtomicU64,
-    batches: u64,
-    seed: u64,
-    compare: impl Fn(&mut HeldCalls, &mut Random),
-) -> Counts {
-    let mut held_calls = HeldCalls::new();
-    loop {
-        let batch = next.fetch_add(1, Ordering::Relaxed);
-        if batch >= batches {
-            return held_calls.given;
-        }
-        let mut random = Random::new(Random::new(seed ^ batch.rotate_left(32)).word());
-        for _ in 0..BATCH {
-            compare(&mut held_calls, &mut random);
-        }
-    }
 }
 
 /// Rate, Table and Read of a file, and Write of what Read gives. Gives whether Rate accepted it.
@@ -272,12 +204,13 @@ fn known_files() -> Vec<(Vec<u8>, u32)> {
     sound.chain(crossed).chain(joined).collect()
 }
 
-/// Rate, Guaranteed, Table and Read of a file with room enough. Gives Read's answer.
+/// Rate, Guaranteed, Table, Plan and Read of a file with room enough. Gives Read's answer.
 fn all_calls(held_calls: &mut HeldCalls, file: &[u8]) -> u32 {
     let most = second_rater::MOST_RISKS;
     held_calls.rate(file, 4 * most);
     held_calls.guaranteed(file, &stock(), 4 * most, most);
     held_calls.table(file, 100);
+    held_calls.plan(file, 10_000, 5_000, 20);
     held_calls.read(file, most, 1_000, 1_000)
 }
 
@@ -668,7 +601,7 @@ fn write_of_each_claim_and_count() {
     }
 }
 
-/// Rate, Table and Read with a null pointer for each slice whose count is 0.
+/// Rate, Table, Plan and Read with a null pointer for each slice whose count is 0.
 fn null_where_empty(file: &[u8], counts_room: usize, claims_room: usize, joined_room: usize) {
     let lent = pointer(file);
     let (mut risks, mut basic, mut excess, mut billed) = (1, 2, 3, 4);
@@ -694,6 +627,12 @@ fn null_where_empty(file: &[u8], counts_room: usize, claims_room: usize, joined_
         // SAFETY: as above.
         let tabled = unsafe { raw::retro_table(lent, 0, 100, &mut charge, &mut savings) };
         assert_eq!((tabled, charge, savings), (1, 5, 6));
+
+        let (mut made, mut best, mut short_of) = (7, 8, 9);
+        // SAFETY: as above.
+        let planned =
+            unsafe { raw::retro_plan(lent, 0, 9, 1, 20, &mut made, &mut best, &mut short_of) };
+        assert_eq!((planned, made, best, short_of), (1, 7, 8, 9));
     }
 
     let mut counts = vec![7; counts_room];
@@ -896,6 +835,9 @@ fn files_as_long_as_the_address_space_has_room_for() {
             let (layers, lent) = (stock().into(), &mut numbers.lend());
             let given = calls::guaranteed(file, layers, &mut premiums, &mut [0; 4], lent);
             assert_eq!((given, numbers), (answer, Numbers::default()));
+            let (mut made, mut best, mut short_of) = (7, 8, 9);
+            let planned = calls::plan(file, 9, 1, 20, &mut made, &mut best, &mut short_of);
+            assert_eq!((planned, made, best, short_of), (answer, 7, 8, 9));
         };
         all(file, 2);
         file[..34].copy_from_slice(&four_risks().file());

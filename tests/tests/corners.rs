@@ -1,9 +1,10 @@
 //! The generator reaches the corners that the comparison is about, each many times.
 
 use retro_tests::generator::{
-    bits, first_bits, get, set, Quote, Random, MARK_KIND, MAXIMUM_MARK, MINIMUM_MARK, RISKS,
+    bits, first_bits, get, set, Quote, Random, Terms, MARK_KIND, MAXIMUM_MARK, MINIMUM_MARK, RISKS,
     STANDARD_PREMIUM,
 };
+use retro_tests::plans::{search, Books};
 use retro_tests::samples::{ranges, Sample, Values, AMPLE};
 use retro_tests::second_rater::{self, Guaranteed};
 use std::collections::BTreeMap;
@@ -672,5 +673,146 @@ fn corners_of_given(quote: &Quote, given: &Guaranteed) -> Vec<&'static str> {
 fn each_corner_of_a_schedule_is_reached() {
     each_is_reached(47, 1_986, 40_000, |random| {
         corners_of_quote(&random.quote())
+    });
+}
+
+/// The corners at which a maximum and a minimum premium lie beside the faults of the file, and the
+/// mistakes that would give another plan.
+fn corners_of_terms(terms: &Terms) -> Vec<String> {
+    let Terms {
+        ref file,
+        maximum,
+        minimum,
+        ..
+    } = *terms;
+    let mut corners = Vec::new();
+    let mut at = |corner: &str, holds: bool| {
+        if holds {
+            corners.push(corner.to_string());
+        }
+    };
+    at("G 0", maximum == 0);
+    at("G 4,294,967,295", maximum == u32::MAX);
+    at("H 0", minimum == 0);
+    at("H 4,294,967,295", minimum == u32::MAX);
+    let crossed = minimum > maximum;
+    let books = match Books::of(file) {
+        Ok(books) => books,
+        Err(question) => {
+            at(&format!("{question} and 22"), crossed);
+            return corners;
+        }
+    };
+    let refused_12 = second_rater::rate(file, AMPLE).err() == Some(12);
+    if crossed {
+        let reaches = |bound| books.reaches(0, bound, bound);
+        at("22, a dollar apart", minimum - maximum == 1);
+        at("22, out of reach in either place", !reaches(minimum));
+        at(
+            "22, out of reach by G alone",
+            !reaches(maximum) && reaches(minimum),
+        );
+        at("22, within reach in either place", reaches(maximum));
+        at("22 and 12", refused_12);
+        return corners;
+    }
+    let given = books.plan(maximum, minimum, terms.trials);
+    at("23 and 12", given == Err(23) && refused_12);
+    at("12 alone", given.is_ok() && refused_12);
+    corners.extend(mistakes(terms, &books));
+    corners
+}
+
+/// The mistakes by which the plan would be another one.
+fn mistakes(terms: &Terms, books: &Books) -> Vec<String> {
+    let Terms {
+        ref file,
+        maximum,
+        minimum,
+        trials,
+    } = *terms;
+    let given = books.plan(maximum, minimum, trials);
+    let mut mistakes = Vec::new();
+    let mut by = |mistake: &str, reaches: &dyn Fn(u32) -> bool| {
+        if search(reaches, trials).ok_or(23) != given {
+            mistakes.push(format!("another plan: {mistake}"));
+        }
+    };
+    let total = |basic| books.total(basic, maximum, minimum);
+    let premiums = |basic| books.premiums(basic, maximum, minimum);
+    let (target, dollar) = (books.target(), books.dollar());
+    by("more than the target", &|basic| total(basic) > target);
+
+    let without_q = Books {
+        excess: 0,
+        ..books.clone()
+    };
+    let reaches = |books: &Books, basic| books.reaches(basic, maximum, minimum);
+    by("Q left out", &|basic| reaches(&without_q, basic));
+    let untaxed = Books {
+        tax: 10_000,
+        ..books.clone()
+    };
+    by("the target before tax", &|basic| {
+        total(basic) >= untaxed.target()
+    });
+    by("the bounds before tax", &|basic| reaches(&untaxed, basic));
+    let limited_target = Books {
+        sum_total: books.limited.iter().sum(),
+        ..books.clone()
+    };
+    by("SA in the target", &|basic| {
+        total(basic) >= limited_target.target()
+    });
+    by("whole dollars of premiums", &|basic| {
+        premiums(basic)
+            .map(|premium| premium / dollar)
+            .sum::<u128>()
+            >= target / dollar
+    });
+    by("premiums as billed", &|basic| {
+        let billed = premiums(basic).map(|premium| (2 * premium + dollar) / (2 * dollar));
+        billed.sum::<u128>() * dollar >= target
+    });
+    by("no maximum", &|basic| {
+        books.reaches(basic, u32::MAX, minimum)
+    });
+    by("no minimum", &|basic| books.reaches(basic, maximum, 0));
+
+    let group = second_rater::read(file, AMPLE, AMPLE, AMPLE).unwrap();
+    let sample = Sample::of(&group);
+    let losses = sample
+        .risks
+        .iter()
+        .map(|claims| claims.iter().map(|&claim| u128::from(claim)));
+    let own_excess = Books {
+        excess: 0,
+        limited: losses.map(Iterator::sum).collect(),
+        ..books.clone()
+    };
+    by("the excess of each risk its own", &|basic| {
+        reaches(&own_excess, basic)
+    });
+    if sample.joined.is_some() {
+        let unjoined = Books::of(&sample.in_edition_2(&[]).file()).unwrap();
+        by("the limit of each claim", &|basic| {
+            reaches(&unjoined, basic)
+        });
+    }
+    if let Ok(rated) = second_rater::rate(file, AMPLE) {
+        let ratable = Books {
+            limited: rated.lines.iter().map(|line| line.ratable).collect(),
+            ..books.clone()
+        };
+        by("K for A", &|basic| reaches(&ratable, basic));
+    }
+    mistakes
+}
+
+#[test]
+fn each_corner_of_terms_is_reached() {
+    // four of the bounds, twelve of a question before 22, five of 22, two of 12, twelve mistakes
+    each_is_reached(35, 2_026, 30_000, |random| {
+        corners_of_terms(&random.terms())
     });
 }

@@ -32,6 +32,7 @@ fn lie_against_the_pages<T: Number>() {
 fn slices_lie_against_the_pages() {
     lie_against_the_pages::<u8>();
     lie_against_the_pages::<u32>();
+    lie_against_the_pages::<i32>();
     lie_against_the_pages::<i64>();
 }
 

@@ -11,8 +11,8 @@ use retro_tests::generator::{
 };
 use retro_tests::held_calls::{Call, HeldCalls, BYTES, ENTRIES};
 use retro_tests::samples::{
-    crossed_marks, four_risks, one_claim_of_one, one_risk, scaffold, schedules, stock, ten_risks,
-    two_risks_of_ten, Sample, Values,
+    bounds, crossed_marks, four_risks, one_claim_of_one, one_risk, scaffold, schedules, stock,
+    ten_risks, two_risks_of_ten, Sample, Values,
 };
 use retro_tests::second_rater::Header;
 
@@ -185,12 +185,12 @@ fn crossed_groups() -> Vec<Sample> {
 }
 
 #[test]
-fn crossed_marks_with_13_14_16_and_17_give_18() {
+fn crossed_marks_with_13_14_16_17_22_and_23_give_18() {
     let mut held_calls = HeldCalls::new();
     for sample in crossed_groups() {
         held_calls.all_give(&sample.file_of_any_marks(), 18);
     }
-    // The buffers, entry ratios and schedules are such that a sound file fails each of these.
+    // The buffers, entry ratios, schedules and bounds are such that a sound file fails each of these.
     let file = four_risks().file();
     assert_eq!(held_calls.rate(&file, 3), 13);
     assert_eq!(held_calls.table(&file, 601), 14);
@@ -201,6 +201,8 @@ fn crossed_marks_with_13_14_16_and_17_give_18() {
     assert_eq!(answers, [0, 16, 16, 17, 16]);
     assert_eq!(held_calls.guaranteed(&file, &stock(), 3, ENTRIES), 13);
     assert_eq!(held_calls.guaranteed(&file, &stock(), BYTES, 0), 13);
+    let answers = bounds().map(|(maximum, minimum)| held_calls.plan(&file, maximum, minimum, 20));
+    assert_eq!(answers, [0, 23, 22, 22, 22]);
 }
 
 #[test]

@@ -3,6 +3,7 @@
 //! nothing.
 
 use retro_tests::desk::{self, Joined};
+use retro_tests::plans::{self, Books};
 use retro_tests::samples::AMPLE;
 use retro_tests::second_rater::{self, LARGEST_FILE, MOST_CLAIMS_PER_RISK, MOST_RISKS};
 use std::process::{Command, Output};
@@ -20,6 +21,8 @@ fn each_call() {
         "read",
         "write",
         "guaranteed",
+        "plan",
+        "plan-without-trials",
         "tuned-rater",
         "tuned-rater-with-vectors",
         "tuned-reader",
@@ -37,7 +40,15 @@ fn each_call() {
 
 #[test]
 fn each_call_in_edition_2() {
-    for call in ["rate", "table", "read", "write", "guaranteed"] {
+    for call in [
+        "rate",
+        "table",
+        "read",
+        "write",
+        "guaranteed",
+        "plan",
+        "plan-without-trials",
+    ] {
         for joined in [
             "none-joined",
             "twentieth-joined",
@@ -110,7 +121,8 @@ fn wrong_usage() {
     }
 }
 
-/// Groups that can be asked for are rated: of some numbers of risks, with each number of claims.
+/// Groups that can be asked for are rated, and have a plan: of some numbers of risks, with each
+/// number of claims.
 #[test]
 fn groups_are_rated() {
     for risks in [1, 2, 3, 16, 255] {
@@ -123,8 +135,12 @@ fn groups_are_rated() {
             ]
             .map(|joined| desk::group_of_edition_2(risks, claims, joined));
             for sample in [desk::group(risks, claims)].iter().chain(&of_edition_2) {
-                let rated = second_rater::rate(&sample.file(), AMPLE);
+                let file = sample.file();
+                let rated = second_rater::rate(&file, AMPLE);
                 assert!(rated.is_ok(), "{risks} risks of {claims} claims: {rated:?}");
+                let (maximum, minimum) = desk::bounds(&file);
+                let plan = plans::plan(&file, maximum, minimum, 20);
+                assert!(plan.is_ok(), "{risks} risks of {claims} claims: {plan:?}");
             }
         }
     }
@@ -147,5 +163,30 @@ fn largest_groups_of_either_edition() {
         assert_eq!(sample.header, of_edition_1.header);
         let set = sample.joined().iter().filter(|&&bit| bit == 1).count();
         assert!((least..=greatest).contains(&set), "{joined:?}: {set}");
+    }
+}
+
+/// The bounds of the largest groups hold some premiums, from below and from above, and others not.
+#[test]
+fn bounds_of_the_largest_groups() {
+    let most = (MOST_RISKS, MOST_CLAIMS_PER_RISK);
+    let quarter = desk::group_of_edition_2(most.0, most.1, Joined::AboutAQuarter);
+    for sample in [
+        desk::group(16, most.1),
+        desk::group(most.0, most.1),
+        quarter,
+    ] {
+        let file = sample.file();
+        let (maximum, minimum) = desk::bounds(&file);
+        let books = Books::of(&file).unwrap();
+        let plan = books.plan(maximum, minimum, 20).unwrap();
+        assert!(plan.best > 0);
+        let premiums: Vec<u128> = books.premiums(plan.best, maximum, minimum).collect();
+        let at = |bound: u32| {
+            let bound = u128::from(bound) * books.dollar();
+            premiums.iter().filter(|&&premium| premium == bound).count()
+        };
+        let (above, below) = (at(maximum), at(minimum));
+        assert!(above > 0 && below > 0 && above + below < premiums.len());
     }
 }

@@ -56,6 +56,14 @@ fn guaranteed_refuses(file: &[u8]) -> u32 {
     answer
 }
 
+/// Plan's refusal without bounds in effect; the lent numbers keep their contents.
+fn plan_refuses(file: &[u8]) -> u32 {
+    let (mut made, mut best, mut short_of) = (7, 8, 9);
+    let answer = calls::plan(file, u32::MAX, 0, 20, &mut made, &mut best, &mut short_of);
+    assert_eq!((made, best, short_of), (7, 8, 9));
+    answer
+}
+
 /// The file of a group, by Write.
 fn write(sample: &Sample) -> Vec<u8> {
     try_write(sample).unwrap()
@@ -83,12 +91,13 @@ fn try_write(sample: &Sample) -> Result<Vec<u8>, u32> {
     Ok(file)
 }
 
-/// The same refusal from the four calls on a file.
+/// The same refusal from the five calls on a file.
 fn all_refuse(file: &[u8], question: u32) {
     assert_eq!(rated(file, 1_020), Err(question));
     assert_eq!(table(file, 100), Err(question));
     assert_eq!(read(file), question);
     assert_eq!(guaranteed_refuses(file), question);
+    assert_eq!(plan_refuses(file), question);
 }
 
 // ---- the four-risk group

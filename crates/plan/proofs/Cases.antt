@@ -2,7 +2,7 @@
 -- are also the file that its values make; one file has a fill bit set, which no values make. Values that document 01 leaves open are in docs/DECISIONS.md. Assumes nothing.
 use mathlib.Core.Path.{_≡_, refl, ap, _∙_}
 use mathlib.Core.List.{List, [], _∷_, map}
-use Prim.Native.Nat.{ℕ, _*_, _-_, max}
+use Prim.Native.Nat.{ℕ, _+_, _*_, _-_, max}
 use lib.IntN.{ℤ, pos, negsuc}
 use lib.ListN.{length, replicate}
 use Rattle.plan.specs.Arithmetic.{nearest}
@@ -25,6 +25,7 @@ use Rattle.plan.specs.Comparison.{Comparison, comparisonOf, compare}
 use lib.Ieee.{binary64, ofBits, ofInt, add, mul, div}
 use Rattle.plan.specs.Questions.{passed, firstNo}
 use Rattle.plan.specs.Charge.{Charged, chargeDouble, raised, thousandths, chargeQuestions, charge1965, exactDenominator}
+use Rattle.plan.specs.SoldOnPremiums.{Plan, premiumsAt, halvings, planFor}
 use Rattle.plan.proofs.Thousandths.{wholeUpTo, thousandths-are}
 
 -- header values: limit, P, e, c, T, kind, maximum, minimum
@@ -584,6 +585,51 @@ chargeCase = (
   refl,
 )
 
+-- ---- document 02, job 6, on the group of four: M ÷ (1,000 × n) is 1,675, and the taxed expenses and losses are 33,600
+
+abbrev plans : ℕ → ℕ → ℤ → Answer Plan
+plans made best short = given (record { made = made; best = best; short = short })
+
+-- G where no maximum is in effect
+abbrev unbounded : ℕ
+unbounded = 4294967295
+
+abbrev PlanCase : Type 0
+PlanCase =
+    -- Rate's own greatest and least premium for G and H: Rate's basic, and the total is met exactly, so that more than it would be 1,676
+    (planFor fourFile 13020 4935 20 ≡ plans 20 1675 (pos 1674))
+    × (premiumsAt fourFile 13020 4935 1675 ≡ 10000000 * 4 * 33600)
+    × (premiumsAt fourFile 13020 4935 1674 ≡ 10000000 * 4 * 33600 - 2 * 42000000)
+    -- bounds that bind below and above: 50 cents over, by two premiums of 1.05 a dollar
+    × (planFor fourFile 12000 5000 20 ≡ plans 20 2130 (pos 2129))
+    × (premiumsAt fourFile 12000 5000 2130 ≡ 10000000 * 4 * 33600 + 20000000)
+    -- no bounds in effect
+    × (planFor fourFile unbounded 0 20 ≡ plans 20 1400 (pos 1399))
+    -- all premiums the same
+    × (planFor fourFile 8400 8400 20 ≡ plans 20 0 (negsuc 0))
+    -- whole dollars alone would need 3,289, and rounded bills 5,032
+    × (planFor fourFile 10250 0 20 ≡ plans 20 3288 (pos 3287))
+    × (planFor fourFile 9150 0 20 ≡ plans 20 5033 (pos 5032))
+    -- 'A number of trials is given'
+    × (planFor fourFile 13020 4935 0 ≡ plans 0 1048575 (negsuc 0))
+    × (planFor fourFile 13020 4935 1 ≡ plans 1 524287 (negsuc 0))
+    × (planFor fourFile 13020 4935 10 ≡ plans 10 2047 (pos 1023))
+    × (planFor fourFile 13020 4935 19 ≡ plans 19 1675 (pos 1673))
+    × (planFor fourFile 13020 4935 21 ≡ plans 20 1675 (pos 1674))
+    -- '23 no B in the range reaches the total', with no trial too
+    × (planFor fourFile 8399 0 20 ≡ refused 23)
+    × (planFor fourFile 8399 0 0 ≡ refused 23)
+    -- '22 H above G, then 23', after 1 to 10
+    × (planFor fourFile 8398 8399 20 ≡ refused 22)
+    × (planFor crossingFile1 0 1 20 ≡ refused 18)
+    -- no 12: what Rate refuses by it has a plan
+    × (planFor tensFile2000 unbounded 0 20 ≡ plans 20 0 (negsuc 0))
+
+planCase : PlanCase
+unfolding number bit field claimWidth claimAt pastClaim countAt firstClaim limitedOf LG LH SX SS ratable basicPremium excessCharge nearest taxedExpensesAndLosses premiumsAt halvings planFor
+planCase =
+    (refl, refl, refl, refl, refl, refl, refl, refl, refl, refl, refl, refl, refl, refl, refl, refl, refl, refl, refl)
+
 -- all of them: 'gathered as one checked list'
-pub provedCases : FourCase × TableCase × OtherCases × GuaranteedCase × MarksCase × SumsCase × AccidentsCase × ChargeCase
-provedCases = (fourCase, tableCase, otherCases, guaranteedCase, marksCase, sumsCase, accidentsCase, chargeCase)
+pub provedCases : FourCase × TableCase × OtherCases × GuaranteedCase × MarksCase × SumsCase × AccidentsCase × ChargeCase × PlanCase
+provedCases = (fourCase, tableCase, otherCases, guaranteedCase, marksCase, sumsCase, accidentsCase, chargeCase, planCase)

@@ -28,6 +28,9 @@ pub mod Columns
 pub mod RowSums
 pub mod Thousandths
 pub mod Charges
+pub mod Halvings
+pub mod PremiumTotals
+pub mod Plans
 pub mod Decoded
 pub mod Writable
 pub mod RoundTrip

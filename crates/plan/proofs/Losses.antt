@@ -118,7 +118,15 @@ claims-total-le s at (suc k) = omega (arith, dollars-le s at, claims-total-le s 
 pub risk-total-le : (s : List ℕ) (at : ℕ) → totalOf (claimsAt s at) ≤ mostRiskLosses
 risk-total-le s at = omega (arith, count-le s at, claims-total-le s (firstClaim at) (countAt s at))
 
--- and so each of its accidents: sum i of the list, 0 behind the last
+-- and so each A: entry i of those of a file's risks, 0 behind the last
+pub each-limited-le : (s : List ℕ) (limit at n i : ℕ)
+    → getD (map (λ r. r .limited) (lossesFrom s limit at n)) i 0 ≤ mostRiskLosses
+each-limited-le s limit at zero zero = omega arith
+each-limited-le s limit at zero (suc i) = omega arith
+each-limited-le s limit at (suc n) zero = omega (arith, limited-total limit (claimsAt s at), risk-total-le s at)
+each-limited-le s limit at (suc n) (suc i) = each-limited-le s limit (pastRisk s at) n i
+
+-- and each accident of a risk: sum i of the list, 0 behind the last
 pub accident-le : (s : List ℕ) (at i : ℕ) → getD (accidentsOf (claimsAt s at)) i 0 ≤ mostRiskLosses
 accident-le s at i =
     omega (arith, entry-le (accidentsOf (claimsAt s at)) i, sum-accidents (claimsAt s at), risk-total-le s at)

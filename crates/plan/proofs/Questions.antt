@@ -95,6 +95,21 @@ yes-to k [] a e = a
 yes-to k (ask n true ∷ qs) a e = found (eqb n k) (asks k qs) (answerTo k qs) (λ h. yes-to k qs h e) a
 yes-to k (ask n false ∷ qs) a e = cc
 
+-- the number of a verdict; 0 where all passed
+abbrev numberOf : Verdict → ℕ
+numberOf passed = 0
+numberOf (failed k) = k
+
+-- no call answers a number that it does not ask
+pub no-asked : (k : ℕ) (qs : List Question) → firstNo qs ≡ failed k → asks k qs ≡ true
+no-asked k [] e = cc
+no-asked k (ask n true ∷ qs) e = or-later (eqb n k) (no-asked k qs e)
+  where
+    or-later : (t : Bool) {b : Bool} → b ≡ true → (t || b) ≡ true
+    or-later true h = refl
+    or-later false h = h
+no-asked k (ask n false ∷ qs) e = simp (eq-eqb n k (ap numberOf e))
+
 -- ---- a question left out of a list
 
 -- the list without the question of a number

@@ -29,3 +29,5 @@ pub mod Comparison
 pub mod Doubles
 pub mod Matrix
 pub mod Charge
+-- Document 02, job 6: plans sold on premiums
+pub mod SoldOnPremiums

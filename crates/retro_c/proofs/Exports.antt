@@ -31,11 +31,15 @@ use Rattle.guaranteed.specs.Comparisons.{partsOf, partsIn, numbersGiven, Compar
 use Rattle.guaranteed.specs.Comparisons as guaranteed
 use Rattle.guaranteed.specs.declared.Comparison as comparing
 use Rattle.guaranteed.specs.declared.Compared.the-variants as compares
-use Rattle.retro_c.specs.Exported.{WriteExported, CompareExported, ChargeExported}
+use Rattle.retro_c.specs.Exported.{WriteExported, CompareExported, ChargeExported, PlanExported}
 use Rattle.plan.specs.Charge.{Charged, charge1965, OnTableAfter}
 use Rattle.charges.specs.Charges.{chargedIs, OnTableGiven}
 use Rattle.charges.specs.declared.TableCharge as charging
 use Rattle.charges.specs.declared.Charged.the-variants as charges
+use Rattle.plan.specs.SoldOnPremiums.{Plan, planFor, Sold, Unsold, SoldAfter}
+use Rattle.premium_plans.specs.PremiumPlans.{planIs, plannedIs, SoldBy}
+use Rattle.premium_plans.specs.declared.PlanFound as planning
+use Rattle.premium_plans.specs.declared.Planned.the-variants as plans
 
 -- ---- Rate
 
@@ -235,3 +239,23 @@ module _ (column r : ℕ) where
 
     pub on-table : OnTableGiven (charges.Given t) column r → OnTableAfter (charge1965 column r) column r (t .charge) (t .thousandths)
     on-table h = subst (λ (a : Answer Charged). OnTableAfter a column r (t .charge) (t .thousandths)) e h
+
+-- ---- a plan sold on premiums
+
+module _ (s : List ℕ) (g h trials : ℕ) where
+  abbrev planned : Answer Plan
+  planned = planFor s g h trials
+
+  module _ (k : ℕ) (e : plannedIs (plans.Refused k) ≡ planned) where
+    pub plan-refused : (lent : Plan) → PlanExported planned k lent lent
+    plan-refused lent = record { code-is = ap codeOf e; numbers-are = kept (λ (p : Plan). p) lent (sym e) }
+
+    pub refused-sold : (made best : ℕ) (short : ℤ) → SoldBy (plans.Refused k) s g h trials → SoldAfter planned s g h trials made best short
+    refused-sold made best short x = subst (λ (a : Answer Plan). SoldAfter a s g h trials made best short) e x
+
+  module _ (p : planning.PlanFound) (e : plannedIs (plans.Given p) ≡ planned) where
+    pub plan-given : (lent : Plan) → PlanExported planned 0 lent (planIs p)
+    plan-given lent = record { code-is = ap codeOf e; numbers-are = set-to (λ (q : Plan). q) lent (sym e) refl }
+
+    pub given-sold : SoldBy (plans.Given p) s g h trials → SoldAfter planned s g h trials (p .made) (p .best) (p .«short_of»)
+    given-sold x = subst (λ (a : Answer Plan). SoldAfter a s g h trials (p .made) (p .best) (p .«short_of»)) e x

@@ -11,6 +11,7 @@ use Rattle.plan.specs.Calls.{Answer, refused, given, giving, numberAfter, Rated
 use Rattle.plan.specs.Calls.{readJoined, write, writeBuffer, writeLength, bufferAfter, premiumBytes}
 use Rattle.plan.specs.Comparison.{Comparison, NumbersGiven}
 use Rattle.plan.specs.Charge.{charge1965}
+use Rattle.plan.specs.SoldOnPremiums.{Plan}
 use Rattle.reading.specs.Reading.{Buffers, readWith}
 use Rattle.retro_c.specs.declared.RetroGroup.{RetroGroup}
 
@@ -122,3 +123,12 @@ pub record ChargeExported (column r code : ℕ) (charge charge′ : Float) (thou
   pub code-is : code ≡ codeOf (charge1965 column r)
   pub charge-is : charge′ ≡ numberAfter (λ c. c .unrounded) (charge1965 column r) charge
   pub thousandths-are : thousandths′ ≡ numberAfter (λ c. c .inThousandths) (charge1965 column r) thousandths
+
+-- the three numbers lent to the call for a plan
+abbrev pub planLent : ℕ → ℕ → ℤ → Plan
+planLent made best short = record { made = made; best = best; short = short }
+
+-- a call of retro_plan to which document 02 answers a, with the numbers `before`, and what is there after it
+pub record PlanExported (a : Answer Plan) (code : ℕ) (before after : Plan) : Type 0 where
+  pub code-is : code ≡ codeOf a
+  pub numbers-are : after ≡ numberAfter (λ p. p) a before

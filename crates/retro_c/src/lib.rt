@@ -1,6 +1,6 @@
-// The calls for C and for test programs: Rate, Table, Read, Write, guaranteed cost beside Rate and a charge of the 1965 table, on
-// numbers and slices, one match each. What a call gives is said in include/retro.h; each contract here is an equation with documents
-// 01 and 02, refusals included.
+// The calls for C and for test programs: Rate, Table, Read, Write, guaranteed cost beside Rate, a charge of the 1965 table and a plan
+// sold on premiums, on numbers and slices, one match each. What a call gives is said in include/retro.h; each contract here is an equation
+// with documents 01 and 02, refusals included.
 ghost use mathlib.Core.Path.{_≡_};
 ghost use lib.ListN.{length};
 ghost use Rattle.plan.specs.Calls.{rate, Demand3After};
@@ -9,14 +9,16 @@ ghost use Rattle.writing.specs.Writer.{givenGroup};
 ghost use Rattle.plan.specs.Comparison as plan;
 ghost use Rattle.plan.specs.Comparison.{BesideAfter};
 ghost use Rattle.plan.specs.Charge.{charge1965, OnTableAfter};
+ghost use Rattle.plan.specs.SoldOnPremiums.{planFor, SoldAfter};
 ghost use Rattle.discount.specs.Schedules.{layersOf};
 ghost use Rattle.retro_c.specs.Exported.{numbers, RateExported, TableExported, ReadExported, WriteExported};
-ghost use Rattle.retro_c.specs.Exported.{lent, CompareExported, ChargeExported};
+ghost use Rattle.retro_c.specs.Exported.{lent, CompareExported, ChargeExported, planLent, PlanExported};
 use charges::Charged;
 use discount::schedule::Schedule;
 use group::Header;
 use guaranteed::Compared;
 use guaranteed::compare;
+use premium_plans::Planned;
 use rating::rates::Rated;
 use reading::GroupRead;
 use tables::Tabled;
@@ -238,6 +240,40 @@ pub extern "C" fn retro_charge(
         Charged::Given(t) => {
             *charge = t.charge;
             *thousandths = t.thousandths;
+            0
+        }
+    }
+}
+
+// A plan sold on premiums: 0, the trials made, the best basic premium yet and the largest known to fall short; or the number of the first
+// question that failed.
+#[no_mangle]
+pub extern "C" fn retro_plan(
+    file: &[u8],
+    maximum: u32,
+    minimum: u32,
+    trials: u32,
+    made: &mut u32,
+    best: &mut u32,
+    short_of: &mut i32,
+) -> u32
+    ensures says { λ code. ⌜
+        PlanExported (planFor (now (file .entry)) maximum minimum trials) code
+        (planLent (now (made .entry)) (now (best .entry)) (now («short_of» .entry)))
+        (planLent (now (made .exit)) (now (best .exit)) (now («short_of» .exit)))
+        ⌝ }
+    ensures sold { λ code. ⌜
+        SoldAfter (planFor (now (file .entry)) maximum minimum trials) (now (file .entry)) maximum minimum trials
+        (now (made .exit)) (now (best .exit)) (now («short_of» .exit))
+        ⌝ }
+{
+    match premium_plans::plan(file, maximum, minimum, trials) {
+        Planned::Refused(k) => k,
+        Planned::Given(p) => {
+            let short = p.short_of;
+            *made = p.made;
+            *best = p.best;
+            *short_of = short;
             0
         }
     }

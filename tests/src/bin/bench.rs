@@ -4,8 +4,9 @@
 //!
 //! Each figure is the median of 101 runs after 11 that do not count, in one process and with the
 //! same buffers, which are not cleared between runs. The runs of the calls take turns. A run is as
-//! many calls as take about a millisecond, and its time is divided by their number. The charges of
-//! the 1965 table, which take no file, are measured after the others in the same way.
+//! many calls as take about a millisecond, and its time is divided by their number. Plan is called
+//! with twenty trials and with none. The charges of the 1965 table, which take no file, are measured
+//! after the others in the same way.
 
 use retro_tests::calls;
 use retro_tests::charges_1965;
@@ -77,7 +78,7 @@ impl Of {
 #[derive(Clone, Copy, PartialEq)]
 struct Measured(Call, Of);
 
-const ALL: [Measured; 27] = [
+const ALL: [Measured; 33] = [
     Measured(Call::Rate, Few),
     Measured(Call::Rate, Most),
     Measured(Call::TunedRater(ClaimByClaim), Most),
@@ -94,6 +95,11 @@ const ALL: [Measured; 27] = [
     Measured(Call::Guaranteed, Few),
     Measured(Call::Guaranteed, Most),
     Measured(Call::SecondRatersGuaranteed, Most),
+    Measured(Call::Plan, Few),
+    Measured(Call::Plan, Most),
+    Measured(Call::PlanWithoutTrials, Few),
+    Measured(Call::PlanWithoutTrials, Most),
+    Measured(Call::SecondPlan, Most),
     Measured(Call::Rate, NoneJoined),
     Measured(Call::Rate, TwentiethJoined),
     Measured(Call::Rate, QuarterJoined),
@@ -105,6 +111,7 @@ const ALL: [Measured; 27] = [
     Measured(Call::Read, QuarterJoined),
     Measured(Call::Write, QuarterJoined),
     Measured(Call::Guaranteed, QuarterJoined),
+    Measured(Call::Plan, QuarterJoined),
 ];
 
 /// A ratio of two medians.
@@ -142,7 +149,7 @@ const GROWTH_GOAL: &str = "below 17";
 /// The goal of Rate in edition 2 to Rate in edition 1, a claim. The files have as many claims.
 const EDITION_GOAL: &str = "at most 1.3";
 
-const RATIOS: [Ratio; 21] = [
+const RATIOS: [Ratio; 26] = [
     ratio(
         "Rate to the tuned rater, 255 risks",
         Measured(Call::Rate, Most),
@@ -212,6 +219,32 @@ const RATIOS: [Ratio; 21] = [
         "Guaranteed of 255 risks to Guaranteed of 16",
         Measured(Call::Guaranteed, Most),
         Measured(Call::Guaranteed, Few),
+    ),
+    ratio(
+        "Plan to the second computation, 255 risks",
+        Measured(Call::Plan, Most),
+        Measured(Call::SecondPlan, Most),
+    )
+    .decimals(4),
+    ratio(
+        "Plan to Rate, 255 risks",
+        Measured(Call::Plan, Most),
+        Measured(Call::Rate, Most),
+    ),
+    ratio(
+        "Plan to Plan without trials, 255 risks",
+        Measured(Call::Plan, Most),
+        Measured(Call::PlanWithoutTrials, Most),
+    ),
+    ratio(
+        "Plan of 255 risks to Plan of 16",
+        Measured(Call::Plan, Most),
+        Measured(Call::Plan, Few),
+    ),
+    ratio(
+        "Plan without trials of 255 risks to that of 16",
+        Measured(Call::PlanWithoutTrials, Most),
+        Measured(Call::PlanWithoutTrials, Few),
     ),
     ratio(
         "Rate a claim, edition 2 with no claim joined to edition 1",

@@ -17,12 +17,14 @@ use std::env;
 use std::process::ExitCode;
 
 /// The calls by the names that the arguments have for them.
-const CALLS: [(&str, Call); 11] = [
+const CALLS: [(&str, Call); 13] = [
     ("rate", Call::Rate),
     ("table", Call::Table),
     ("read", Call::Read),
     ("write", Call::Write),
     ("guaranteed", Call::Guaranteed),
+    ("plan", Call::Plan),
+    ("plan-without-trials", Call::PlanWithoutTrials),
     ("tuned-rater", Call::TunedRater(ClaimByClaim)),
     ("tuned-rater-with-vectors", Call::TunedRater(WithVectors)),
     ("tuned-reader", Call::TunedReader(ClaimByClaim)),

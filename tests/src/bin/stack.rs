@@ -107,6 +107,10 @@ fn write(task: &mut Task) {
     );
 }
 
+fn plan(task: &mut Task) {
+    task.answer = calls::plan(&task.file, u32::MAX, 0, 20, &mut 0, &mut 0, &mut 0);
+}
+
 fn charge(task: &mut Task) {
     task.answer = calls::charge(44, 120, &mut 0.0, &mut 0);
 }
@@ -203,6 +207,7 @@ fn main() {
         ("Read", read),
         ("Write", write),
         ("Guaranteed", guaranteed),
+        ("Plan", plan),
         ("Charge, which takes no file", charge),
     ] {
         let [of_1, of_2] = tasks.each_mut().map(|task| used(task, call));

@@ -1,0 +1,2 @@
+-- The call's answer as document 02's.
+pub mod PremiumPlans
