@@ -24,6 +24,10 @@ pub before-differs : (from : ℕ) → Differs (before from) from 1
 before-differs zero = record { is = omega arith }
 before-differs (suc b) = record { is = omega arith }
 
+pub before-is : (from : ℕ) → pos from -ℤ pos 1 ≡ before from
+before-is from =
+    same (pos from -ℤ pos 1) (before from) (of-minus (pos from) (pos 1) (of-pos from) (of-pos 1)) (before-differs from) (omega arith)
+
 -- a plan after some trials
 abbrev pub planWith : ℕ → ℕ → ℕ → Plan
 planWith made best from = record { made = made; best = best; short = before from }

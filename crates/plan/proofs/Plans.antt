@@ -4,19 +4,18 @@
 use mathlib.Core.Path.{_≡_, refl, sym, ap, _∙_, subst}
 use mathlib.Core.Bool.{Bool, true, false}
 use mathlib.Core.List.{List, [], _∷_, _++_}
-use Prim.Native.Nat.{ℕ, zero, suc, _+_, _*_, _-_, _^_, _≤_, _<_, min}
+use Prim.Native.Nat.{ℕ, zero, suc, _+_, _-_, _^_, _≤_, _<_, min}
 use native.Mathlib.Omega.{arith}
 use borrow.Author.Tests.{leb-true, leb-false}
-use lib.IntN.{ℤ, pos, _-ℤ_}
-use Rattle.plan.specs.Header.{headerOf, riskCount}
+use lib.IntN.{pos, _-ℤ_}
 use Rattle.plan.specs.Demand3.{taxedExpensesAndLosses}
-use Rattle.plan.specs.Questions.{Question, ask, Verdict, passed, failed, firstNo, lossQuestions, tableQuestions}
-use Rattle.plan.specs.Calls.{Answer, refused, given, answer}
+use Rattle.plan.specs.Questions.{ask, Verdict, passed, failed, firstNo, lossQuestions, tableQuestions}
+use Rattle.plan.specs.Calls.{refused, given}
 use Rattle.plan.specs.SoldOnPremiums.{premiumsAt, reaches, mostBasic, mostTrials, Plan, halvings, boundQuestions}
 use Rattle.plan.specs.SoldOnPremiums.{question23, planQuestions, planFor, Finished, FallsShort, Sold, Unsold}
 use Rattle.plan.proofs.Differences.{of-pos, of-minus, crossed}
-use Rattle.plan.proofs.Questions.{numbers, after-gate, passed-both, given-passed, refused-failed, yes-to, no-asked}
-use Rattle.plan.proofs.Halvings.{before, before-differs, planWith, apart-is, Halving, Halvings, halvings-are}
+use Rattle.plan.proofs.Questions.{numbers, after-gate, given-passed, refused-failed, yes-to, no-asked}
+use Rattle.plan.proofs.Halvings.{before, before-differs, apart-is, Halving, halvings-are}
 use Rattle.plan.proofs.PremiumTotals as totals
 
 -- ---- the order in which the call asks

@@ -1,14 +1,13 @@
 -- The total of the premiums of a basic of B whole dollars: it never falls as B grows, and a dollar more adds at most 1,000 × n × T to each
 -- premium, so 1,000 × n × n × T to the total, since holding a premium between two bounds keeps its order and adds nothing to a rise.
 -- So where 1,048,575 does not reach, no B in the range does. Assumes nothing.
-use mathlib.Core.Path.{_≡_, sym, ap, _∙_}
-use mathlib.Core.Bool.{true, false}
+use mathlib.Core.Path.{_≡_, ap}
+use mathlib.Core.Bool.{false}
 use mathlib.Core.List.{List}
 use Prim.Native.Nat.{ℕ, _+_, _*_, _≤_, _<_}
 use native.Mathlib.Nat.{mul-le-mul-left}
 use native.Mathlib.Omega.{arith}
 use borrow.Author.Tests.{leb-false}
-use lib.ListN.{length}
 use Rattle.plan.specs.Sizes.{premiumScale}
 use Rattle.plan.specs.Header.{headerOf, riskCount}
 use Rattle.plan.specs.Losses.{Losses, lossesIn}

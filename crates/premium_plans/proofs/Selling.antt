@@ -1,10 +1,10 @@
 -- From the numbers that the code has of a file's group to document 02's: the terms are the file's, each limited loss is within its
 -- bound, and whether a basic premium reaches by them is whether it reaches by the file. So the answer is the file's, and what holds of it
 -- is what the laws say. Assumes nothing.
-use mathlib.Core.Path.{_≡_, refl, sym, ap, ap₂, _∙_, subst}
-use mathlib.Core.Bool.{Bool, true, false}
-use mathlib.Core.List.{List, [], _∷_, _++_, map}
-use Prim.Native.Nat.{ℕ, zero, suc, _+_, _*_, _-_, _^_, _≤_, _<_}
+use mathlib.Core.Path.{_≡_, sym, ap, _∙_, subst}
+use mathlib.Core.Bool.{Bool}
+use mathlib.Core.List.{List, [], _∷_}
+use Prim.Native.Nat.{ℕ, _+_, _*_, _-_, _≤_, _<_}
 use native.Mathlib.Nat.{mul-le-mul}
 use native.Mathlib.Omega.{arith}
 use borrow.Author.Tests.{le-leb}
@@ -15,14 +15,14 @@ use Rattle.plan.specs.Arithmetic.{sumOf}
 use Rattle.plan.specs.Sizes.{mostRisks, mostRiskLosses, mostGroupLosses}
 use Rattle.plan.specs.Header as plan
 use Rattle.plan.specs.Header.{headerOf, headerBits, riskCount}
-use Rattle.plan.specs.Losses.{Losses, SL, SA, lossesIn}
+use Rattle.plan.specs.Losses.{Losses, lossesIn}
 use Rattle.plan.specs.Basic.{excessOf, excessCharge}
 use Rattle.plan.specs.Demand3.{taxedExpensesAndLosses}
 use Rattle.plan.specs.Bounds.{GroupBounds}
-use Rattle.plan.specs.Questions.{Verdict, passed, failed, firstNo, orElse, ask, lossQuestions}
-use Rattle.plan.specs.Calls.{Answer, refused, given, answer}
-use Rattle.plan.specs.SoldOnPremiums.{PlanTerms, Plan, heldPremium, planTermsOf, premiumsAt, reaches, mostBasic, halvings}
-use Rattle.plan.specs.SoldOnPremiums.{question22, question23, boundQuestions, planQuestions, planFor}
+use Rattle.plan.specs.Questions.{Verdict, passed, firstNo, orElse, ask, lossQuestions}
+use Rattle.plan.specs.Calls.{answer}
+use Rattle.plan.specs.SoldOnPremiums.{heldPremium, planTermsOf, premiumsAt, reaches, mostBasic, halvings}
+use Rattle.plan.specs.SoldOnPremiums.{question22, question23, boundQuestions, planFor}
 use Rattle.plan.proofs.Sums.{sum-map}
 use Rattle.plan.proofs.Losses.{length-losses, each-limited-le}
 use Rattle.plan.proofs.Questions.{after-gate, answered, loss-sound}
@@ -167,7 +167,8 @@ module _ {s : List ℕ} {v : group.Header} {l : GroupLosses} (x : AtHand s v l) 
 
       pub found : (trials : ℕ) (r : Planned) → h ≤ g
           → plannedIs r
-          ≡ answer (firstNo (ask 23 (reachesBy (terms g h q) (l .limiteds) o mostBasic) ∷ [])) (halvings (reachesBy (terms g h q) (l .limiteds) o) trials)
+          ≡ answer (firstNo (ask 23 (reachesBy (terms g h q) (l .limiteds) o mostBasic) ∷ []))
+          (halvings (reachesBy (terms g h q) (l .limiteds) o) trials)
           → plannedIs r ≡ planFor s g h trials
       found trials r in-order e =
           e

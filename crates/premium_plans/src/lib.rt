@@ -3,11 +3,11 @@
 ghost use mathlib.Core.Path.{_≡_};
 ghost use mathlib.Core.List.{[], _∷_};
 ghost use Prim.Native.Nat.{_≤_};
+ghost use lib.IntN.{pos, _-ℤ_};
 ghost use Rattle.plan.specs.Questions.{ask, firstNo};
 ghost use Rattle.plan.specs.Calls.{answer};
 ghost use Rattle.plan.specs.SoldOnPremiums as plan;
 ghost use Rattle.plan.specs.SoldOnPremiums.{mostBasic, halvings};
-ghost use Rattle.plan.proofs.Halvings.{before};
 ghost use Rattle.totals.specs.Totals.{reachesBy};
 ghost use Rattle.premium_plans.specs.PremiumPlans.{SearchBounds, planIs, plannedIs, SoldBy};
 use gates::open_losses;
@@ -37,7 +37,7 @@ pub enum Planned {
 // The number before one of 20 bits, −1 before 0.
 fn before_it(from: u32) -> i32
     requires { ⌜ from ≤ mostBasic ⌝ }
-    ensures { λ r. ⌜ r ≡ before from ⌝ }
+    ensures { λ r. ⌜ r ≡ pos from -ℤ pos 1 ⌝ }
 {
     from as i32 - 1
 }

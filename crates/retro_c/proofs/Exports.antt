@@ -36,7 +36,7 @@ use Rattle.plan.specs.Charge.{Charged, charge1965, OnTableAfter}
 use Rattle.charges.specs.Charges.{chargedIs, OnTableGiven}
 use Rattle.charges.specs.declared.TableCharge as charging
 use Rattle.charges.specs.declared.Charged.the-variants as charges
-use Rattle.plan.specs.SoldOnPremiums.{Plan, planFor, Sold, Unsold, SoldAfter}
+use Rattle.plan.specs.SoldOnPremiums.{Plan, planFor, SoldAfter}
 use Rattle.premium_plans.specs.PremiumPlans.{planIs, plannedIs, SoldBy}
 use Rattle.premium_plans.specs.declared.PlanFound as planning
 use Rattle.premium_plans.specs.declared.Planned.the-variants as plans

@@ -1,6 +1,6 @@
 -- Two numbers in parts compare as their high parts do, and where these are equal as their low parts do: a low part is below d, so one
 -- more in the high part outweighs it. Assumes nothing.
-use mathlib.Core.Path.{_≡_, refl, ap, _∙_}
+use mathlib.Core.Path.{_≡_, refl, ap}
 use mathlib.Core.Bool.{Bool, true, false, cond}
 use Prim.Native.Nat.{ℕ, _+_, _*_, _≤_, _<_}
 use native.Mathlib.Nat.{mul-le-mul-right}

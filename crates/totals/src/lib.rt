@@ -1,7 +1,7 @@
 // The premiums of a plan that is sold on premiums, by a basic premium of whole dollars: one premium, held between the minimum and the
 // maximum, their total, and whether it reaches what they are to pay. Totals leave 64 bits, so they are kept and compared in two parts.
 ghost use mathlib.Core.Path.{_≡_};
-ghost use Prim.Native.Nat.{_+_, _*_, _^_, _≤_, _<_};
+ghost use Prim.Native.Nat.{_+_, _*_, _^_, _<_};
 ghost use lib.Dec.{leb};
 ghost use lib.ListN.{take};
 ghost use Rattle.plan.specs.Arithmetic.{sumOf};

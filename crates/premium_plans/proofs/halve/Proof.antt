@@ -1,17 +1,14 @@
 -- The invariant: the trials made so far are so many halvings, and no more than are given. The measure is the trials to come. Where the loop
 -- is left, as many are made as are given, or best and short are next to each other and no more would be. Assumes nothing.
-use mathlib.Core.Path.{_≡_, sym, ap, _∙_, subst}
-use mathlib.Core.Bool.{Bool, true, false}
+use mathlib.Core.Path.{_≡_, sym, _∙_, subst}
 use mathlib.Core.Logic.{⊎-elim}
 use Prim.Native.Nat.{ℕ, _+_, _-_, _≤_, _<_}
 use native.Mathlib.Omega.{arith}
-use borrow.Author.Needs.{needs}
 use borrow.Author.Tests.{ltb-true, ltb-false}
-use lib.IntN.{ℤ}
 use mir.Syntax.{w32}
 use mir.Facts.{toZ-ofZ}
-use Rattle.plan.specs.SoldOnPremiums.{Plan, mostBasic, mostTrials, halvings}
-use Rattle.plan.proofs.Halvings.{before, between, planWith, Halving, halving-starts, halving-reached, halving-short, ordered, few}
+use Rattle.plan.specs.SoldOnPremiums.{mostTrials, halvings}
+use Rattle.plan.proofs.Halvings.{before-is, between, planWith, Halving, halving-starts, halving-reached, halving-short, ordered, few}
 use Rattle.plan.proofs.Halvings.{given-made, no-more-made, trial-most}
 use Rattle.totals.specs.Totals.{reachesBy}
 use Rattle.premium_plans.proofs.halve.Statement.{statement}
@@ -105,7 +102,7 @@ returns c =
     let l = c .before .before in
     let a = start l .args in
     let x = l .loop .inv .1 in
-    let short = toZ-ofZ {w = w32} (record { sfits = c .before-it .ok }) ∙ c .before-it .ensures in
+    let short = toZ-ofZ {w = w32} (record { sfits = c .before-it .ok }) ∙ c .before-it .ensures ∙ before-is (l .loop .from) in
     let all : halvings (reachesBy (a .terms) (a .limiteds .now) (a .owed)) (a .trials) ≡ planWith (l .loop .made) (l .loop .best) (l .loop .from) =
     ⊎-elim (λ w. no-more-made x (l .loop .inv .0) (ltb-false (l .loop .from) (l .loop .best) (w .1 .left)))
     (λ w. given-made x (omega (arith, w .left, l .loop .inv .0)))

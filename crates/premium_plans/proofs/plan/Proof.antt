@@ -1,11 +1,10 @@
 -- Questions 1 to 10, then 22, then 23 and the trials by the file's own terms. Assumes nothing.
 use mathlib.Core.Path.{_≡_, refl, sym, ap, _∙_}
 use mathlib.Core.List.{List}
-use Prim.Native.Nat.{ℕ, _≤_}
+use Prim.Native.Nat.{ℕ}
 use native.Mathlib.Omega.{arith}
 use borrow.Author.Needs.{needs}
 use borrow.Author.Tests.{lt-leb}
-use Rattle.plan.specs.Questions.{passed, firstNo, lossQuestions}
 use Rattle.plan.specs.SoldOnPremiums.{planFor}
 use Rattle.group.specs.Values.{verdictIs}
 use Rattle.group.specs.declared.Verdict.the-variants.{Passed, Failed}

@@ -4,7 +4,7 @@ use mathlib.Core.Bool.{Bool}
 use mathlib.Core.List.{[], _∷_}
 use borrow.Author.Needs.{needs}
 use Rattle.plan.specs.Questions.{ask, firstNo}
-use Rattle.plan.specs.Calls.{Answer, answer, given}
+use Rattle.plan.specs.Calls.{answer, given}
 use Rattle.plan.specs.SoldOnPremiums.{Plan, mostBasic, halvings}
 use Rattle.totals.specs.Totals.{reachesBy}
 use Rattle.premium_plans.proofs.search.Statement.{statement}

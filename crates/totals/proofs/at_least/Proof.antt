@@ -4,7 +4,6 @@ use mathlib.Core.Bool.{Bool, cond}
 use borrow.Author.Tests.{eq-eqb, ne-eqb}
 use lib.Dec.{leb, ltb, eqb}
 use Rattle.totals.specs.Totals.{partSize, valueOf}
-use Rattle.totals.specs.declared.Parts.{Parts}
 use Rattle.totals.proofs.Pairs.{pairs-compare}
 use Rattle.totals.proofs.at_least.Statement.{statement}
 use Rattle.totals.proofs.at_least.Tie as tie

@@ -1,7 +1,7 @@
 -- The invariant: both parts so far, with the premiums to come, are the total, and each is below 2 ^ 32 for each premium so far. The
 -- measure is the premiums to come. Assumes nothing.
-use mathlib.Core.Path.{_≡_, ap, _∙_, subst}
-use Prim.Native.Nat.{ℕ, _+_, _*_, _-_, _≤_, _<_}
+use mathlib.Core.Path.{subst}
+use Prim.Native.Nat.{ℕ, _+_, _*_, _-_, _≤_}
 use native.Mathlib.Omega.{arith}
 use borrow.Author.Needs.{needs}
 use Rattle.plan.specs.SoldOnPremiums.{heldPremium}
