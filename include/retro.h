@@ -216,7 +216,7 @@ uint32_t retro_guaranteed(const uint8_t *file, size_t file_len, retro_schedule s
  *
  * and if that is below H it is H, and if above G it is G: the bounds hold the taxed premium. Here n
  * is the number of risks, T the tax multiplier in ten-thousandths and c the loss conversion factor in
- * thousandths. A is the risk's limited losses: its accidents, each cut to the loss limit where there
+ * thousandths. A is the risk's limited losses: the sum of its accidents, each cut to the loss limit where there
  * is one. Q is the excess loss charge of the group in thousandths of a dollar, c times all that the
  * limit cuts off. The sum of the premiums over all risks never falls as B grows. The total that it
  * must reach is the taxed expenses and losses, T * (n * e + SL) / 10,000 dollars, where e is the
@@ -241,7 +241,7 @@ uint32_t retro_guaranteed(const uint8_t *file, size_t file_len, retro_schedule s
  *
  * The refusals of the file come first, 1 to 10 with 18 after 6 and 19 after 9; then 22 where H is
  * above G; then 23 where no basic premium from 0 to 1,048,575 reaches the total, whatever the trials.
- * No other number is answered: 12 and 13 are not asked. After any of them made, best and short_of
+ * No other number is answered: 12 and 13 are not asked. After any of them, made, best and short_of
  * hold what they held.
  */
 uint32_t retro_plan(const uint8_t *file, size_t file_len, uint32_t maximum, uint32_t minimum,

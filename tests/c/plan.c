@@ -29,7 +29,7 @@ static const char *reason(uint32_t refused)
     case 22:
         return "the minimum premium is above the maximum premium";
     case 23:
-        return "no basic premium to 1,048,575 reaches the taxed expenses and losses";
+        return "no basic premium from 0 to 1,048,575 reaches the taxed expenses and losses";
     default:
         return "the file, by the questions in retro.h";
     }

@@ -600,7 +600,7 @@ PlanCase =
     (planFor fourFile 13020 4935 20 ≡ plans 20 1675 (pos 1674))
     × (premiumsAt fourFile 13020 4935 1675 ≡ 10000000 * 4 * 33600)
     × (premiumsAt fourFile 13020 4935 1674 ≡ 10000000 * 4 * 33600 - 2 * 42000000)
-    -- bounds that bind below and above: 50 cents over, by two premiums of 1.05 a dollar
+    -- bounds that bind below and above: 50 cents over, where two premiums rise, by 1.05 each a dollar
     × (planFor fourFile 12000 5000 20 ≡ plans 20 2130 (pos 2129))
     × (premiumsAt fourFile 12000 5000 2130 ≡ 10000000 * 4 * 33600 + 20000000)
     -- no bounds in effect

@@ -167,7 +167,7 @@ module _ {test : ℕ → Bool} {k best from : ℕ} (x : Halving test k best from
         → halvings test (k + 1) ≡ cond t (planWith (k + 1) trial from) (planWith (k + 1) best (trial + 1))
     next-by e = next ∙ ap (λ (t : Bool). cond t (planWith (k + 1) trial from) (planWith (k + 1) best (trial + 1))) e
 
-    -- 'becomes best if it reaches'
+    -- it becomes best if it reaches
     pub halving-reached : test (between best from) ≡ true → Halving test (k + 1) (between best from) from
     halving-reached e = record {
       is = next-by e;
@@ -177,7 +177,7 @@ module _ {test : ℕ → Bool} {k best from : ℕ} (x : Halving test k best from
       falls = x .falls;
     }
 
-    -- 'and short if not'
+    -- and short if not
     pub halving-short : test (between best from) ≡ false → Halving test (k + 1) best (between best from + 1)
     halving-short e = record {
       is = next-by e;
@@ -189,7 +189,7 @@ module _ {test : ℕ → Bool} {k best from : ℕ} (x : Halving test k best from
 
 -- ---- any number of trials
 
--- what any number of trials comes to: 'made = the lesser of 20 and those given'
+-- what any number of trials comes to: as many are made as the lesser of 20 and those given
 pub record Halvings (test : ℕ → Bool) (trials : ℕ) : Type 0 where
   pub best : ℕ
   pub from : ℕ

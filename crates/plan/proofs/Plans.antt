@@ -78,7 +78,7 @@ module _ (s : List ℕ) (g h trials : ℕ) where
       subst (λ (q : Plan). Sold s g h trials (q .made) (q .best) (q .short)) (sym (x .is) ∙ gave .1)
       (sold s g h trials (min mostTrials trials) (x .best) (x .from) refl (x .halving) (yes-to 23 (planQuestions s g h) refl (gave .0)))
 
-  -- what the call comes to where 1 to 22 pass
+  -- what the call comes to where 1 to 10 and 22 pass
   last-verdict : firstNo (boundQuestions s g h) ≡ passed → firstNo (planQuestions s g h) ≡ firstNo (question23 s g h ∷ [])
   last-verdict e = after-gate (boundQuestions s g h) (question23 s g h ∷ []) e
 

@@ -163,7 +163,7 @@ pub record Sold (s : List ℕ) (g h trials made best : ℕ) (short : ℤ) : Type
   pub over-by : Finished best short → 0 < best
       → premiumsAt s g h best ≤ taxedExpensesAndLosses s + 1000 * riskCount s * riskCount s * headerOf s .tax
 
--- of a call that is refused by k: where it is 23 no B in the range reaches, and where 1 to 22 pass it is 23
+-- of a call that is refused by k: where it is 23 no B in the range reaches, and where 1 to 10 and 22 pass it is 23
 pub record Unsold (s : List ℕ) (g h k : ℕ) : Type 0 where
   pub none : k ≡ 23 → (b : ℕ) → b ≤ mostBasic → premiumsAt s g h b < taxedExpensesAndLosses s
   pub only : firstNo (boundQuestions s g h) ≡ passed → k ≡ 23
