@@ -1,4 +1,3 @@
--- Laws that the proofs of functions cite, the law of the running sums among them.
-pub mod RunningSums
-pub mod Walking
-pub mod Joining
+-- Laws that the loops over claims cite.
+pub mod Reach
+pub mod Limit

@@ -1,9 +1,9 @@
 -- Taking a claim: what it asks for, and what it gives.
 use mathlib.Core.Path.{_≡_}
 use mathlib.Core.List.{List}
-use Prim.Native.Nat.{ℕ, _+_, _-_, _*_, _/_, _%_, _^_, _≤_}
+use Prim.Native.Nat.{ℕ, _+_, _-_, _*_, _/_, _^_, _≤_}
 use Rattle.plan.specs.Sizes.{mostClaims, mostClaimWidth, mostFileBits}
-use Rattle.plan.specs.Claim.{Claim, claim, joined, dollars, dollarsWidth, claimAt, pastClaim}
+use Rattle.plan.specs.Claim.{joined, dollars, dollarsWidth, claimAt, pastClaim}
 use Rattle.claims.specs.declared.claim.TakenClaim.{TakenClaim}
 
 -- a run of `count` claims that begins where one of a file can
@@ -25,19 +25,3 @@ pub record ClaimTaken (s : List ℕ) (at : ℕ) (r : TakenClaim) : Type 0 where
 -- the dollars on the front of a word of 64 bits
 abbrev pub frontDollars : ℕ → ℕ
 frontDollars w = w / 2 ^ (64 - dollarsWidth)
-
--- the bits of a word below the first of two claims with bits on its front, and below the second
-abbrev pub firstLow : ℕ
-firstLow = 43
-
-abbrev pub secondLow : ℕ
-secondLow = 22
-
--- a claim with its bit in a word, above its `low` lowest bits: the dollars, and the bit above them
-abbrev pub claimIn : ℕ → ℕ → Claim
-claimIn w low = claim (w / 2 ^ (low + dollarsWidth) % 2 ^ 1) (w / 2 ^ low % 2 ^ dollarsWidth)
-
--- both claims of a pair open an accident
-pub record PairOpens (w : ℕ) : Type 0 where
-  pub first : joined (claimIn w firstLow) ≡ 0
-  pub second : joined (claimIn w secondLow) ≡ 0

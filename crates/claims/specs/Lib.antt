@@ -1,3 +1,3 @@
--- What taking a claim, a risk and a run of risks asks for and gives.
+-- What taking a claim asks for and gives, and what a run of claims comes to.
 pub mod Claim
-pub mod Walks
+pub mod Run

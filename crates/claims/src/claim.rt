@@ -1,5 +1,5 @@
 // One claim as it lies in a file of either edition: taken at a place or from a word's front, and whether it fits; and where a run of
-// claims ends. How claims are put is the crate `pairs`.
+// claims ends. How claims are put is the crate `runs`.
 ghost use mathlib.Core.Path.{_≡_};
 ghost use Prim.Native.Nat.{_+_, _*_, _/_, _≤_, min};
 ghost use Rattle.plan.specs.Sizes.{largestClaim};
@@ -24,7 +24,7 @@ pub const DOLLARS_WIDTH: u32 = 20;
 pub const MOST_CLAIM_WIDTH: u32 = 21;
 
 // The largest claim.
-pub(crate) const LARGEST_CLAIM: u32 = 1048575;
+pub const LARGEST_CLAIM: u32 = 1048575;
 
 // A claim, its bit and its dollars, and the place where it ended.
 pub struct TakenClaim {
@@ -48,7 +48,7 @@ pub fn claim_width(edition: u32) -> u32
 }
 
 // The place after `count` claims of an edition from a place on: it is known by their number alone.
-pub(crate) fn past_claims(place: BitPlace, count: u32, edition: u32) -> BitPlace
+pub fn past_claims(place: BitPlace, count: u32, edition: u32) -> BitPlace
     requires { ⌜ RunReach (place .at) count ⌝ }
     ensures { λ r. ⌜ r .at ≡ place .at + claimWidth edition * count ⌝ }
 {
@@ -95,7 +95,7 @@ pub fn claim_at(file: &[u8], place: BitPlace, edition: u32, reach: usize) -> Tak
 }
 
 // The dollars on the front of a word: its highest bits.
-pub(crate) fn dollars_ahead(word: u64) -> u32
+pub fn dollars_ahead(word: u64) -> u32
     ensures { λ r. ⌜ r ≡ frontDollars word ⌝ }
 {
     highest(word, DOLLARS_WIDTH) as u32
@@ -103,7 +103,7 @@ pub(crate) fn dollars_ahead(word: u64) -> u32
 
 // The lesser of the dollars on the front of a word and those of another claim. Of words, the one with the lesser claim on its front is
 // the lesser: so the whole word is compared, and need not wait for its claim to be cut off.
-pub(crate) fn limited_ahead(word: u64, most: u32) -> u32
+pub fn limited_ahead(word: u64, most: u32) -> u32
     requires { ⌜ most ≤ largestClaim ⌝ }
     ensures { λ r. ⌜ r ≡ min (frontDollars word) most ⌝ }
 {

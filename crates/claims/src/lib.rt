@@ -1,4 +1,4 @@
-// The claims of a group file: one claim taken and measured, and the walk over the claims of a risk and over the risks, which gives
-// step 1's losses. What the header says, and what is asked of a file, is not known here.
+// The claims of a group file: one claim taken and measured, and what a run of claims is to a loop over it. What the header says, and
+// what is asked of a file, is not known here.
 pub mod claim;
-pub mod walk;
+pub mod run;

@@ -1,3 +1,2 @@
--- What taking the header and opening a file give.
-pub mod Header
+-- What opening a file gives.
 pub mod Opening

@@ -5,18 +5,18 @@ ghost use Rattle.plan.specs.Accidents.{allOpen};
 ghost use Rattle.plan.specs.File.{risksOf, endOf};
 ghost use Rattle.plan.specs.Questions.{firstNo, endQuestions, fileQuestions};
 ghost use Rattle.group.specs.Values.{verdictIs};
-ghost use Rattle.groupfile.specs.Header.{FileHeaderIs};
+ghost use Rattle.header.specs.Header.{FileHeaderIs};
 ghost use Rattle.groupfile.specs.Opening.{OpenedIs, OutlineIs};
-use crate::header::FileHeader;
-use crate::header::header_of;
-use crate::header::header_verdict;
-use crate::header::known_edition;
 use bits::BitPlace;
-use claims::walk::count_claims;
-use claims::walk::walk;
+use counts::count_claims;
 use group::GroupLosses;
 use group::Header;
 use group::Verdict;
+use header::FileHeader;
+use header::header_of;
+use header::header_verdict;
+use header::known_edition;
+use walking::walk;
 
 // Bytes of the header.
 pub const HEADER_BYTES: usize = 16;

@@ -1,3 +1,3 @@
 -- The laws of the loops, and of a claim's two fields as one.
-mod ByPairs
-mod AsOne
+pub mod ByPairs
+pub mod AsOne

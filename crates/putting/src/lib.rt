@@ -12,19 +12,19 @@ ghost use Rattle.bits.specs.Runs.{Space, Wrote};
 ghost use Rattle.group.specs.Values.{headerIs};
 ghost use Rattle.putting.specs.Putting.{firstSlots, lastSlots, slotsOfRisk, givenGroup, Ready};
 use bits::BitPlace;
-use claims::walk::COUNT_WIDTH;
+use counts::COUNT_WIDTH;
 use group::Header;
-use groupfile::header::CONVERSION_WIDTH;
-use groupfile::header::EDITION_WIDTH;
-use groupfile::header::EXPENSE_WIDTH;
-use groupfile::header::LOSS_LIMIT_WIDTH;
-use groupfile::header::MARK_KIND_WIDTH;
-use groupfile::header::MARK_WIDTH;
-use groupfile::header::RISKS_WIDTH;
-use groupfile::header::SPARE_WIDTH;
-use groupfile::header::STANDARD_PREMIUM_WIDTH;
-use groupfile::header::TAX_WIDTH;
-use pairs::put_claims;
+use header::CONVERSION_WIDTH;
+use header::EDITION_WIDTH;
+use header::EXPENSE_WIDTH;
+use header::LOSS_LIMIT_WIDTH;
+use header::MARK_KIND_WIDTH;
+use header::MARK_WIDTH;
+use header::RISKS_WIDTH;
+use header::SPARE_WIDTH;
+use header::STANDARD_PREMIUM_WIDTH;
+use header::TAX_WIDTH;
+use runs::put_claims;
 
 // Puts edition to loss conversion factor, and gives the place after them.
 fn put_first(out: &mut [u8], edition: u32, h: Header) -> BitPlace

@@ -19,7 +19,7 @@ use Rattle.plan.proofs.Risks.{length-claims-at, length-counts, counts-claims, c
 use Rattle.plan.proofs.Risks.{parts-more}
 use Rattle.plan.proofs.Filled.{filled-none, filled-more, filled-run}
 use Rattle.bits.specs.declared.Taken.{Taken}
-use Rattle.claims.specs.Walks.{CountIs}
+use Rattle.counts.specs.Counts.{CountIs}
 use Rattle.reading.specs.Reading.{bit, RisksRoom}
 
 -- ---- the claims of a risk

@@ -14,7 +14,7 @@ ghost use Rattle.reading.specs.Reading.{bit, buffers, RisksRoom, ReadSay
 use bits::BitPlace;
 use claims::claim::claim_at;
 use claims::claim::reach_of;
-use claims::walk::count_at;
+use counts::count_at;
 use group::Header;
 use group::Verdict;
 use groupfile::opening::open_outline;

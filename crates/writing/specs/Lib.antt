@@ -1,3 +1,2 @@
--- What is asked of given bits, and Write's answer as document 01's.
-pub mod Fitting
+-- Write's answer as document 01's.
 pub mod Writer

@@ -1,4 +1,3 @@
-// Write: given values as the bytes of a group file. `fitting` has questions 15 and 19 of given values, and `writer` the call.
-// All questions are decided before the first byte is stored.
-mod fitting;
+// Write: given values as the bytes of a group file. What it asks of them, questions 15 and 19, is the crate `fitting`. All questions
+// are decided before the first byte is stored.
 pub mod writer;

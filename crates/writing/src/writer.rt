@@ -7,15 +7,15 @@ ghost use Rattle.plan.specs.Header.{headerBits};
 ghost use Rattle.plan.specs.Claim.{claimWidth};
 ghost use Rattle.plan.specs.Risk.{countWidth};
 ghost use Rattle.writing.specs.Writer.{givenGroup, WriteSays};
-use crate::fitting::risks_open;
-use crate::fitting::values_fit;
 use claims::claim::claim_width;
-use claims::walk::COUNT_WIDTH;
+use counts::COUNT_WIDTH;
+use fitting::risks_open;
+use fitting::values_fit;
 use group::Header;
 use group::Verdict;
-use groupfile::header::header_verdict;
-use groupfile::header::known_edition;
 use groupfile::opening::HEADER_BYTES;
+use header::header_verdict;
+use header::known_edition;
 use putting::put_file;
 
 // What Write gives: the file's length, or the number of the first question that failed.

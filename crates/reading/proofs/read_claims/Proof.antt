@@ -10,7 +10,7 @@ use lib.Seq.{paste}
 use Rattle.plan.specs.Claim.{dollars, claimsFrom, pastClaims}
 use Rattle.plan.specs.Claim as plan
 use Rattle.plan.proofs.Claims.{joined-le, past-more}
-use Rattle.claims.proofs.Walking.{next-reach}
+use Rattle.claims.proofs.Reach.{next-reach}
 use Rattle.reading.specs.Reading.{bit}
 use Rattle.reading.proofs.Storing.{Copying, copying-starts, copying-more}
 use Rattle.reading.proofs.read_claims.Statement.{statement}

@@ -7,8 +7,8 @@ use borrow.Author.Needs.{needs}
 use Rattle.plan.specs.Header as plan
 use Rattle.plan.proofs.FileSizes.{risks-le}
 use Rattle.plan.proofs.Losses.{length-losses}
-use Rattle.claims.specs.Walks.{WalkIs}
-use Rattle.claims.proofs.RunningSums.{total-is-all, limited-is-all, next-is-end}
+use Rattle.risks.proofs.RunningSums.{total-is-all, limited-is-all, next-is-end}
+use Rattle.walking.specs.Walks.{WalkIs}
 use Rattle.groupfile.proofs.opening.open.Statement.{statement}
 use Rattle.groupfile.proofs.opening.open.Tie as tie
 

@@ -5,7 +5,7 @@ use native.Mathlib.Omega.{arith}
 use borrow.Author.Needs.{needs}
 use Rattle.plan.specs.Header as plan
 use Rattle.plan.proofs.FileSizes.{risks-le}
-use Rattle.claims.specs.Walks.{CountedIs}
+use Rattle.counts.specs.Counts.{CountedIs}
 use Rattle.groupfile.proofs.opening.open_outline.Statement.{statement}
 use Rattle.groupfile.proofs.opening.open_outline.Tie as tie
 

@@ -1,0 +1,2 @@
+-- The law of a pair.
+mod Room

@@ -1,0 +1,2 @@
+-- What the counts of risks give.
+pub mod Counts

@@ -1,0 +1,2 @@
+-- What is asked of given bits.
+pub mod Fitting

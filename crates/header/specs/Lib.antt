@@ -1,0 +1,2 @@
+-- What taking the header gives.
+pub mod Header

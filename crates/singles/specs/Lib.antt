@@ -1,0 +1,2 @@
+-- What adding a claim asks for and gives.
+pub mod Singles

@@ -1,0 +1,2 @@
+-- What the walk gives.
+pub mod Walks
