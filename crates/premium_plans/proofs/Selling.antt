@@ -9,7 +9,7 @@ use native.Mathlib.Nat.{mul-le-mul}
 use native.Mathlib.Omega.{arith}
 use borrow.Author.Tests.{le-leb}
 use lib.Dec.{leb}
-use lib.ListN.{getD, take}
+use lib.ListN.{length, getD, take}
 use lib.Seq.{getD-take}
 use Rattle.plan.specs.Arithmetic.{sumOf}
 use Rattle.plan.specs.Sizes.{mostRisks, mostRiskLosses, mostGroupLosses}
@@ -33,10 +33,10 @@ use Rattle.group.specs.declared.Header as group
 use Rattle.group.specs.declared.GroupLosses.{GroupLosses}
 use Rattle.group.proofs.Losses.{limiteds-are, limiteds-enough}
 use Rattle.steps.specs.Basic.{ExcessBounds}
-use Rattle.totals.specs.Totals.{planTermsIs, valueOf, PartsAre, OwedBounds, reachesBy}
+use Rattle.totals.specs.Totals.{planTermsIs, valueOf, PlanBounds, OwedBounds, reachesBy}
 use Rattle.totals.specs.declared.PlanTerms as totals
 use Rattle.totals.specs.declared.Parts.{Parts}
-use Rattle.premium_plans.specs.PremiumPlans.{SearchBounds, plannedIs, SoldBy}
+use Rattle.premium_plans.specs.PremiumPlans.{plannedIs, SoldBy}
 use Rattle.premium_plans.specs.declared.Planned.{Planned}
 use Rattle.premium_plans.specs.declared.Planned.the-variants as answers
 
@@ -106,8 +106,11 @@ module _ {s : List ℕ} {v : group.Header} {l : GroupLosses} (x : AtHand s v l) 
       let some : l .total - l .limited ≤ mostGroupLosses = omega (arith, total-most) in
       omega (arith, mul-le-mul (excess-bounds .conversion-most) some)
 
+  pub enough : l .risks ≤ length (l .limiteds)
+  enough = limiteds-enough (x .losses) (bounds .risks)
+
   -- each A
-  each : (i : ℕ) → i < l .risks → getD (l .limiteds) i 0 ≤ mostRiskLosses
+  pub each : (i : ℕ) → i < l .risks → getD (l .limiteds) i 0 ≤ mostRiskLosses
   each i h =
       subst (λ (a : ℕ). a ≤ mostRiskLosses)
       (sym (sym (getD-take (l .risks) (l .limiteds) i 0 h) ∙ ap (λ (l : List ℕ). getD l i 0) (limiteds-are (x .losses))))
@@ -118,17 +121,12 @@ module _ {s : List ℕ} {v : group.Header} {l : GroupLosses} (x : AtHand s v l) 
     abbrev pub terms : totals.PlanTerms
     terms = record { risks = l .risks; conversion = v .conversion; tax = v .tax; excess = q; maximum = g; minimum = h }
 
-    pub search-bounds : q ≤ 2000 * mostGroupLosses → {o : Parts} {w : ℕ} → PartsAre w o → SearchBounds terms (l .limiteds) o
-    search-bounds most p = record {
-      terms = record {
-        few = few;
-        conversion = excess-bounds .conversion-most;
-        tax = owed-bounds .tax-most;
-        excess = most;
-      };
-      enough = limiteds-enough (x .losses) (bounds .risks);
-      each = each;
-      owed-low = p .low-lt;
+    pub plan-bounds : q ≤ 2000 * mostGroupLosses → PlanBounds terms
+    plan-bounds most = record {
+      few = few;
+      conversion = excess-bounds .conversion-most;
+      tax = owed-bounds .tax-most;
+      excess = most;
     }
 
   -- and with the file's
@@ -154,12 +152,12 @@ module _ {s : List ℕ} {v : group.Header} {l : GroupLosses} (x : AtHand s v l) 
         (λ i. sumOf (heldPremium (terms-are i) b) (limiteds-are (x .losses) i))
         ∙ sum-map (heldPremium (planTermsOf s g h) b) (λ (r : Losses). r .limited) (lossesIn s)
 
-    module _ {o : Parts} (paid : PartsAre (1000 * l .risks * v .tax * (l .risks * v .expense + l .total)) o) where
+    module _ (o : Parts) (owed : valueOf o ≡ 1000 * l .risks * v .tax * (l .risks * v .expense + l .total)) where
       owed-is : valueOf o ≡ taxedExpensesAndLosses s
       unfolding taxedExpensesAndLosses
       owed-is =
           let risks = x .losses .risks ∙ length-losses s in
-          paid .is ∙ (λ i. 1000 * risks i * tax-is i * (risks i * expense-is i + x .losses .total i))
+          owed ∙ (λ i. 1000 * risks i * tax-is i * (risks i * expense-is i + x .losses .total i))
 
       -- and a basic premium reaches by them where it does by the file
       tests : reachesBy (terms g h q) (l .limiteds) o ≡ reaches s g h

@@ -11,7 +11,7 @@ use Rattle.group.specs.declared.Verdict.the-variants.{Passed, Failed}
 use Rattle.premium_plans.specs.PremiumPlans.{plannedIs, SoldBy}
 use Rattle.premium_plans.specs.declared.Planned.{Planned}
 use Rattle.premium_plans.specs.declared.Planned.the-variants.{Refused}
-use Rattle.premium_plans.proofs.Selling.{AtHand, sold-by, planned, excess-bounds, owed-bounds, excess-le, search-bounds, found}
+use Rattle.premium_plans.proofs.Selling.{AtHand, sold-by, planned, excess-bounds, owed-bounds, excess-le, enough, each, plan-bounds, found}
 use Rattle.premium_plans.proofs.plan.Statement.{statement}
 use Rattle.premium_plans.proofs.plan.Tie as tie
 
@@ -90,7 +90,12 @@ search-requires : tie.Need-search-requires
 search-requires c κs =
     let q = charged c in
     let x = at-hand (told q) in
-    search-bounds x _ _ _ (omega (arith, q .excess-of .ensures, excess-le x)) (c .before .before .before .owed-of .ensures)
+    record {
+      terms = plan-bounds x _ _ _ (omega (arith, q .excess-of .ensures, excess-le x));
+      enough = enough x;
+      each = each x;
+      owed-low = c .before .before .before .owed-of .ensures .low-lt;
+    }
 
 returns-2 : tie.Need-returns-2
 returns-2 c =
@@ -108,8 +113,8 @@ returns-3 c =
     let a = start o .args in
     let r = c .search .result in
     both r o
-    (found (at-hand (told q)) (a .maximum) (a .minimum) _ (q .excess-of .ensures) (c .before .before .before .before .owed-of .ensures) (a .trials)
-    r (in-order q .if1 .left) (c .search .ensures))
+    (found (at-hand (told q)) (a .maximum) (a .minimum) _ (q .excess-of .ensures) _
+    (c .before .before .before .before .owed-of .ensures .is) (a .trials) r (in-order q .if1 .left) (c .search .ensures))
 
 pub plan-spec : {M : Type 1} → statement M
 plan-spec =
