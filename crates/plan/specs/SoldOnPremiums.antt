@@ -150,7 +150,7 @@ pub record Sold (s : List ℕ) (g h trials made best : ℕ) (short : ℤ) : Type
   -- 'the best B yet that reaches the total'
   pub best-reaches : taxedExpensesAndLosses s ≤ premiumsAt s g h best
   pub short-falls : FallsShort s g h short
-  -- 'Each trial given .. halves their distance, until it is 1'
+  -- 'Each trial given .. halves their distance, until it is 1'; no more than 20 are made, so 20 − made cannot cut off
   pub made-is : made ≡ min mostTrials trials
   pub distance-is : pos best -ℤ short ≡ pos (2 ^ (mostTrials - made))
   -- 'Twenty trials always finish.'
