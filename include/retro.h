@@ -36,7 +36,7 @@
  *      8  Does the file end with the byte that holds the last claim or count?
  *      9  Are the bits that fill its last byte zero?
  *     10  Is the group's sum of limited losses at least 1?
- *     11  Is the minimum mark in whole dollars at most the maximum mark in whole dollars?
+ *     11  (not asked any more: no call answers it, and the number is kept free)
  *     12  Is the balanced basic premium at least 0?
  *     13  Is each lent buffer long enough?
  *     14  Is the entry ratio at most 600 hundredths?
@@ -52,16 +52,19 @@
  *     22  Is the minimum premium at most the maximum premium?
  *     23  Does a basic premium from 0 to 1,048,575 dollars reach the taxed expenses and losses?
  *
- *     retro_rate        asks 1 to 6, 18, 7 to 9, 19, 10 to 13
- *     retro_guaranteed  asks 1 to 6, 18, 7 to 9, 19, 10 to 13, then 16, then 17
+ *     retro_rate        asks 1 to 6, 18, 7 to 9, 19, 10, 12, 13
+ *     retro_guaranteed  asks 1 to 6, 18, 7 to 9, 19, 10, 12, 13, then 16, then 17
  *     retro_plan        asks 1 to 6, 18, 7 to 9, 19, 10, then 22, then 23
  *     retro_table       asks 1 to 6, 18, 7 to 9, 19, 10, then 14
  *     retro_read        asks 1 to 6, 18, 7 to 9, 19, then 13
  *     retro_write       asks 2 of the edition, 3 to 6, 18, 7, then 15, then 19, then 13
  *     retro_charge      asks 20, then 21
  *
- * 11 is still asked, but no file can be made any more that is refused with it: marks that are in
- * order as written are in order in whole dollars.
+ * 11 asked after 10 whether the minimum mark in whole dollars is at most the maximum mark in whole
+ * dollars. Since 18 compares the marks as written, no file could be refused with 11 any more: marks
+ * of either kind that are in order as written are in order in whole dollars, as rounding down keeps
+ * their order. So it is gone, and no file has another result by this. No call answers 11, and no
+ * later question will have that number.
  *
  * Memory
  *

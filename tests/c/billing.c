@@ -15,7 +15,8 @@
 
 enum { BILLED = 0, REFUSED = 1, UNREADABLE = 2, USAGE = 3, UNPRINTED = 4 };
 
-/* The question of each refusal of retro_rate and retro_table, as retro.h numbers them. */
+/* The question of each refusal of retro_rate and retro_table, as retro.h numbers them. 11 is not
+   used: no call answers it. */
 static const char *const questions[] = {
     [1] = "Has the file at least 16 bytes?",
     [2] = "Is the edition 1 or 2 and the spare bit 0?",
@@ -27,13 +28,19 @@ static const char *const questions[] = {
     [8] = "Does the file end with the byte that holds the last claim or count?",
     [9] = "Are the fill bits of the last byte zero?",
     [10] = "Is the sum of limited losses at least 1?",
-    [11] = "Is the minimum mark in whole dollars at most the maximum mark in whole dollars?",
     [12] = "Is the balanced basic premium at least 0?",
     [13] = "Is the buffer for the premiums long enough?",
     [14] = "Is the entry ratio at most 6.00?",
     [18] = "Is the minimum mark at most the maximum mark?",
     [19] = "Does the first claim of each risk open an accident?",
 };
+
+/* The question that is answered No, also where the number has no text here. */
+static const char *question(uint32_t refused)
+{
+    const char *text = refused < sizeof questions / sizeof questions[0] ? questions[refused] : NULL;
+    return text != NULL ? text : "a question that is not asked here.";
+}
 
 /* A file in memory. */
 struct contents {
@@ -147,7 +154,7 @@ int main(int argc, char **argv)
     free(file.bytes);
     if (refused != 0) {
         fprintf(stderr, "billing: %s is refused with %" PRIu32 ": %s No.\n", argv[1], refused,
-                questions[refused]);
+                question(refused));
         return REFUSED;
     }
     if (fflush(stdout) != 0 || ferror(stdout)) {

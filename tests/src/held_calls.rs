@@ -97,10 +97,13 @@ pub enum Call {
 /// The calls of document 01.
 pub const CALLS: [Call; 4] = [Call::Rate, Call::Table, Call::Read, Call::Write];
 
+/// The number of the question that job 7 of document 02 took out. No call answers it, and no other
+/// question has it.
+pub const TAKEN_OUT: u32 = 11;
+
 impl Call {
     /// The answers that the call can give: 0, or a question that it asks, in the order in which it
-    /// asks them. Rate and Guaranteed ask 11 after 10, but no file that passed 18 fails it, since
-    /// rounding down keeps the order of the marks.
+    /// asks them. `TAKEN_OUT` is none of them, whatever the call.
     pub fn answers(self) -> &'static [u32] {
         match self {
             Call::Rate => &[0, 1, 2, 3, 4, 5, 6, 18, 7, 8, 9, 19, 10, 12, 13],
@@ -154,6 +157,12 @@ impl Counts {
             "{call:?} gave {answer} in edition {edition}, which it cannot give"
         );
         self.0[edition][call as usize][answer as usize] += 1;
+    }
+
+    /// How often any call gave the answer.
+    pub fn of_any_call(&self, answer: u32) -> u64 {
+        let calls = self.0.iter().flatten();
+        calls.map(|of| of[answer as usize]).sum()
     }
 
     /// How often the call gave the answer to a file or values of any edition.

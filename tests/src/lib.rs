@@ -40,8 +40,8 @@ pub fn examples() -> PathBuf {
     repository().join("examples")
 }
 
-/// The questions that can be the first No of a file, in the order in which they are asked. 11
-/// cannot: a file that fails it has failed 18.
+/// The questions that can be the first No of a file, in the order in which they are asked. 11 is no
+/// question any more.
 pub const QUESTIONS_OF_A_FILE: [u32; 13] = [1, 2, 3, 4, 5, 6, 18, 7, 8, 9, 19, 10, 12];
 
 /// The example file that is refused with this question.

@@ -1,14 +1,15 @@
 //! A second rater: retrospective premiums balanced on a group's own Table M.
 //!
 //! It follows document 01, with job 1 of document 02 for guaranteed cost, job 2
-//! for the order of the marks and job 4 for accidents, and serves as the outside
-//! figure against which a production rater is compared. To share no mistake with
-//! such a rater it goes a deliberately different way: the whole file is expanded
-//! to one string of bits, every field is taken as a 128-bit whole number, all
-//! arithmetic is in `i128` and `u128`, every risk has its own `Vec` of claims,
-//! which are sorted into a `Vec` for each accident before anything is summed,
-//! and each step of the documents is one plain function with the document's
-//! letter or words in its comment. Speed and memory are of no concern.
+//! for the order of the marks, job 4 for accidents and job 7 for the question
+//! that is taken out, and serves as the outside figure against which a
+//! production rater is compared. To share no mistake with such a rater it goes a
+//! deliberately different way: the whole file is expanded to one string of bits,
+//! every field is taken as a 128-bit whole number, all arithmetic is in `i128`
+//! and `u128`, every risk has its own `Vec` of claims, which are sorted into a
+//! `Vec` for each accident before anything is summed, and each step of the
+//! documents is one plain function with the document's letter or words in its
+//! comment. Speed and memory are of no concern.
 //!
 //! Money is whole dollars. The calls answer `Err(k)` where the first question
 //! answered No is number `k` of the documents.
@@ -583,8 +584,10 @@ fn billed_less_guaranteed(billed: u128, guaranteed: u128) -> i128 {
 // The calls
 // ---------------------------------------------------------------------------
 
-/// Rate: questions 1 to 13, with 18 between 6 and 7 and 19 between 9 and 10.
-/// `room` is the output buffer's length in bytes; each premium needs four.
+/// Rate: questions 1 to 10, 12 and 13, with 18 between 6 and 7 and 19 between 9
+/// and 10. 11 is not asked: "rounding down keeps their order", so that LH is at
+/// most LG wherever the marks have passed 18. `room` is the output buffer's
+/// length in bytes; each premium needs four.
 pub fn rate(file: &[u8], room: usize) -> Result<Rated, u32> {
     let Opened { fields, risks } = open(file)?;
     let n = fields.risks;
@@ -602,11 +605,6 @@ pub fn rate(file: &[u8], room: usize) -> Result<Rated, u32> {
 
     let maximum = mark_dollars(fields.maximum_mark, &fields, sum_limited);
     let minimum = mark_dollars(fields.minimum_mark, &fields, sum_limited);
-    // no file that passed 18 is refused here: rounding down keeps order
-    if minimum > maximum {
-        return Err(11);
-    }
-
     let sum_above = sum_above_maximum(&limited, maximum);
     let sum_below = sum_below_minimum(&limited, minimum);
     let basic = balanced_basic(
@@ -652,6 +650,19 @@ pub fn rate(file: &[u8], room: usize) -> Result<Rated, u32> {
         premiums,
         lines,
     })
+}
+
+/// Step 2 of a file that passes questions 1 to 9, 18 and 19: LG and LH. 10 is
+/// not asked, so that SA may be 0.
+pub fn marks_in_dollars(file: &[u8]) -> Result<(u128, u128), u32> {
+    let Opened { fields, risks } = open(file)?;
+    let limited = risks
+        .iter()
+        .map(|claims| limited_losses(claims, fields.loss_limit));
+    let sum_limited = limited.sum();
+    let maximum = mark_dollars(fields.maximum_mark, &fields, sum_limited);
+    let minimum = mark_dollars(fields.minimum_mark, &fields, sum_limited);
+    Ok((maximum, minimum))
 }
 
 /// Guaranteed cost beside the retro premium: Rate's questions, where 13 is of

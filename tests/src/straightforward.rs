@@ -182,9 +182,6 @@ pub fn rate(file: &[u8], premiums: &mut [u8]) -> Result<Rated, u32> {
     };
     let maximum = dollars(maximum_mark);
     let minimum = dollars(minimum_mark);
-    if minimum > maximum {
-        return Err(11);
-    }
     let above: u64 = limited.iter().map(|a| a.saturating_sub(maximum)).sum();
     let below: u64 = limited.iter().map(|a| minimum.saturating_sub(*a)).sum();
     let added = 1_000 * risks * expense + conversion * above;

@@ -6,7 +6,7 @@ use retro_tests::calls;
 use retro_tests::charges_1965::{self, pairs, within, within_a_millionth, COLUMNS, ENTRY_RATIOS};
 use retro_tests::comparison::say;
 use retro_tests::generator::Random;
-use retro_tests::held_calls::{Call, HeldCalls};
+use retro_tests::held_calls::{Call, HeldCalls, TAKEN_OUT};
 use std::time::Instant;
 
 /// Charges of the table.
@@ -184,6 +184,7 @@ fn each_pair_around_the_table() {
     }
     let rare = at_random.given.rarer_than(LEAST, &[Call::Charge]);
     assert!(rare.is_empty(), "fewer than {LEAST} times: {rare:?}");
+    assert_eq!(counts.of_any_call(TAKEN_OUT), 0);
 }
 
 /// A pair of any numbers of 32 bits, or with one or both of the table.

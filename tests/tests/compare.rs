@@ -14,7 +14,7 @@ use retro_tests::generator::{
     first_bits, risks_in, set, Random, EDITION, MINIMUM_MARK, STANDARD_PREMIUM,
 };
 use retro_tests::guard::Sparse;
-use retro_tests::held_calls::{Call, HeldCalls, CALLS};
+use retro_tests::held_calls::{Call, HeldCalls, CALLS, TAKEN_OUT};
 use retro_tests::samples::{
     accidents_cut, crossed_marks, four_risks, largest, largest_of_edition_2, one_claim_of_one,
     scaffold, schedule, stock, ten_risks, two_risks_of_ten, Sample, Values,
@@ -61,6 +61,7 @@ fn generated_files() {
     );
     let rare = counts.rarer_than(LEAST, &CALLS);
     assert!(rare.is_empty(), "fewer than {LEAST} times: {rare:?}");
+    assert_eq!(counts.of_any_call(TAKEN_OUT), 0);
     for call in CALLS {
         about_half_in_either_edition(&counts, call);
     }
@@ -94,6 +95,7 @@ fn generated_schedules() {
         rare.is_empty(),
         "fewer than {LEAST_OF_QUOTES} times: {rare:?}"
     );
+    assert_eq!(counts.of_any_call(TAKEN_OUT), 0);
     assert!(halves >= LEAST_OF_QUOTES, "{halves} exact halves");
     about_half_in_either_edition(&counts, Call::Guaranteed);
 }

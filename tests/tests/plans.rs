@@ -14,7 +14,7 @@ use retro_tests::generator::{
     STANDARD_PREMIUM,
 };
 use retro_tests::guard::{Guarded, PLACES};
-use retro_tests::held_calls::{Call, HeldCalls};
+use retro_tests::held_calls::{Call, HeldCalls, TAKEN_OUT};
 use retro_tests::plans::{self, after, search, Books, Plan, LARGEST_BASIC};
 use retro_tests::samples::{
     bounds, four_risks, largest, largest_of_edition_2, one_claim_of_one, one_risk, scaffold,
@@ -367,6 +367,7 @@ fn generated_terms() {
     ));
     let rare = counts.rarer_than(LEAST, &[Call::Plan]);
     assert!(rare.is_empty(), "fewer than {LEAST} times: {rare:?}");
+    assert_eq!(counts.of_any_call(TAKEN_OUT), 0);
     about_half_in_either_edition(&counts, Call::Plan);
     assert_eq!(kinds.len(), KINDS.len() + 21, "{kinds:?}");
     let rare: Vec<_> = kinds.iter().filter(|(_, &times)| times < LEAST).collect();

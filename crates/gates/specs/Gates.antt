@@ -1,4 +1,4 @@
--- What the gates of questions 1 to 10 and 1 to 12 give.
+-- What the gates of questions 1 to 10 and 1 to 12 give; 18 and 19 are in their places, and 11 is not asked.
 use mathlib.Core.Path.{_≡_}
 use mathlib.Core.List.{List, [], _∷_}
 use Prim.Native.Nat.{ℕ}

@@ -1,8 +1,7 @@
--- The balance of the plan. K + what was cut off = A + what was made up, for each risk and so for the group; put into the total
--- of the premiums, step 4's M is what makes the total T × 1,000 × n × (n × e + SL). The total moves by T × n for each unit of
--- the basic, and T × n is above 0, so no other basic gives it. Assumes nothing.
+-- The balance of the plan. K + what was cut off = A + what was made up, for each risk and so for the group, where LH is at most LG, which
+-- it is of marks that passed 18; put into the total of the premiums, step 4's M is what makes the total T × 1,000 × n × (n × e + SL).
+-- The total moves by T × n for each unit of the basic, and T × n is above 0, so no other basic gives it. Assumes nothing.
 use mathlib.Core.Path.{_≡_, sym, ap, _∙_, subst}
-use mathlib.Core.Logic.{_≢_}
 use mathlib.Core.List.{List}
 use Prim.Native.Nat.{ℕ, _+_, _*_, _-_, _≤_, _<_}
 use native.Mathlib.Omega.{arith}
@@ -16,6 +15,8 @@ use Rattle.plan.specs.Marks.{LG, LH}
 use Rattle.plan.specs.Ratable.{clamp, SX, SS, ratable}
 use Rattle.plan.specs.Basic.{basicOf, basicPremium, excessCharge}
 use Rattle.plan.specs.Premium.{unroundedOf}
+use Rattle.plan.specs.Bounds.{GroupBounds}
+use Rattle.plan.proofs.MarksInOrder.{LH≤LG}
 use Rattle.plan.proofs.Sums.{sum-add, sum-mul, sum-const, sum-ext}
 use Rattle.plan.proofs.Differences.{Differs, over, under, of-pos, of-self, of-add, of-minus, of-scale, of-sum, same, crossed}
 
@@ -71,19 +72,19 @@ algebra : (n e c t sl sa sx ss sk q : ℕ) → sk + sx ≡ sa + ss → sa + q �
     ≡ 1000 * n * t * (n * e + sl) + n * (t * (c * sl + c * ss))
 algebra n e c t sl sa sx ss sk q h g = omega (arith, ap (λ (x : ℕ). t * n * c * x) h, ap (λ (x : ℕ). t * n * c * x) g)
 
--- the total with step 4's M and step 5's Q
-pub balance : (h : Header) (rs : List Losses) → SA rs ≤ SL rs → LH h rs ≤ LG h rs
+-- the total with step 4's M and step 5's Q, of a group within its bounds, which passes 3 to 7, 18 among them
+pub balance : (h : Header) (rs : List Losses) → GroupBounds h rs
     → premiumTotal (length rs) (h .conversion) (h .tax) (excessCharge h rs) (ratable h rs) rs (basicPremium h rs)
     ≡ pos (1000 * length rs * h .tax * (length rs * h .expense + SL rs))
 unfolding basicPremium excessCharge
-balance h rs fits ordered =
+balance h rs b =
     let n : ℕ = length rs in
     let c : ℕ = h .conversion in
     same _ _
     (total-differs n c (h .tax) (c * (SL rs - SA rs)) (ratable h rs) rs _ _ _ (basic-differs n (h .expense) c (SL rs) (SX h rs) (SS h rs)))
     (of-pos (1000 * n * h .tax * (n * h .expense + SL rs)))
     (algebra n (h .expense) c (h .tax) (SL rs) (SA rs) (SX h rs) (SS h rs) (sumOf (ratable h rs) rs) (SL rs - SA rs)
-    (ratable-sum h rs ordered) (omega arith))
+    (ratable-sum h rs (LH≤LG h rs (b .sound .marks-in-order))) (omega (arith, b .limited)))
 
 cancel : (k a b a′ b′ : ℕ) → 0 < k → k * a + k * b′ ≡ k * a′ + k * b → a + b′ ≡ a′ + b
 cancel k a b a′ b′ p h = eq-of-mul-eq-mul-left k p (a + b′) (a′ + b) (omega (arith, h))

@@ -630,6 +630,51 @@ unfolding number bit field claimWidth claimAt pastClaim countAt firstClaim limit
 planCase =
     (refl, refl, refl, refl, refl, refl, refl, refl, refl, refl, refl, refl, refl, refl, refl, refl, refl, refl, refl)
 
+-- ---- document 02, job 7
+
+-- P 1 with entry ratio marks 0.500 and 0.500, and with 1.000 and 0.999; P 1,000 with loss ratio marks 0.900 and 0.899, and with 0.900 and
+-- 0.950 and e 2,000
+abbrev halfFile : List ℕ
+halfFile = 16 ∷ 0 ∷ 0 ∷ 0 ∷ 0 ∷ 4 ∷ 0 ∷ 0 ∷ 31 ∷ 66 ∷ 113 ∷ 8 ∷ 125 ∷ 3 ∷ 232 ∷ 2 ∷ 4 ∷ 0 ∷ 0 ∷ 64 ∷ []
+
+abbrev nextEntryFile : List ℕ
+nextEntryFile = 16 ∷ 0 ∷ 0 ∷ 0 ∷ 0 ∷ 4 ∷ 0 ∷ 0 ∷ 31 ∷ 66 ∷ 113 ∷ 8 ∷ 250 ∷ 7 ∷ 206 ∷ 2 ∷ 4 ∷ 0 ∷ 0 ∷ 64 ∷ []
+
+abbrev nextLossFile : List ℕ
+nextLossFile = 16 ∷ 0 ∷ 0 ∷ 0 ∷ 15 ∷ 160 ∷ 0 ∷ 0 ∷ 31 ∷ 66 ∷ 113 ∷ 0 ∷ 225 ∷ 7 ∷ 6 ∷ 2 ∷ 4 ∷ 0 ∷ 0 ∷ 64 ∷ []
+
+abbrev expenseFile : List ℕ
+expenseFile = 16 ∷ 0 ∷ 0 ∷ 0 ∷ 15 ∷ 160 ∷ 1 ∷ 244 ∷ 31 ∷ 66 ∷ 113 ∷ 0 ∷ 225 ∷ 7 ∷ 108 ∷ 2 ∷ 4 ∷ 0 ∷ 0 ∷ 64 ∷ []
+
+abbrev OrderCase : Type 0
+OrderCase =
+    -- 'LH can't exceed LG': equal marks
+    Written (marked 1 1 500 500) halfFile
+    × (lg halfFile ≡ 0)
+    × (lh halfFile ≡ 0)
+    × (rate halfFile 4 ≡ rates 1 (pos 1000) 0 1 (1 ∷ []))
+    -- a thousandth apart
+    × Written (marked 1 1 1000 999) nextEntryFile
+    × (lg nextEntryFile ≡ 1)
+    × (lh nextEntryFile ≡ 0)
+    × (rate nextEntryFile 4 ≡ rates 1 (pos 0) 0 1 (1 ∷ []))
+    -- after 10 comes 12, in job 1's call too
+    × Written (marked 1000 0 900 899) nextLossFile
+    × (lg nextLossFile ≡ 900)
+    × (lh nextLossFile ≡ 899)
+    × (rate nextLossFile 4 ≡ refused 12)
+    × (compare nextLossFile (stock 0) 4 1 ≡ refused 12)
+    -- 18 keeps out what would be rated out of balance: M is 1,051,000 and K 900, in all 1,951, where 2,001 is owed
+    × Written (group (header 0 1000 2000 1000 10000 0 900 950) (1 ∷ []) (1 ∷ [])) expenseFile
+    × (basicPremium (headerOf expenseFile) (lossesIn expenseFile) ≡ pos 1051000)
+    × (map (ratable (headerOf expenseFile) (lossesIn expenseFile)) (lossesIn expenseFile) ≡ 900 ∷ [])
+    × (rate expenseFile 4 ≡ refused 18)
+
+orderCase : OrderCase
+unfolding bytesOf number bit field claimWidth claimAt pastClaim slotsOfClaim countAt firstClaim limitedOf LG LH SX SS ratable basicPremium excessCharge nearest billRounding billWith ratedOf rate compare
+orderCase =
+    (refl, refl, refl, refl, refl, refl, refl, refl, refl, refl, refl, refl, refl, refl, refl, refl, refl)
+
 -- all of them: 'gathered as one checked list'
-pub provedCases : FourCase × TableCase × OtherCases × GuaranteedCase × MarksCase × SumsCase × AccidentsCase × ChargeCase × PlanCase
-provedCases = (fourCase, tableCase, otherCases, guaranteedCase, marksCase, sumsCase, accidentsCase, chargeCase, planCase)
+pub provedCases : FourCase × TableCase × OtherCases × GuaranteedCase × MarksCase × SumsCase × AccidentsCase × ChargeCase × PlanCase × OrderCase
+provedCases = (fourCase, tableCase, otherCases, guaranteedCase, marksCase, sumsCase, accidentsCase, chargeCase, planCase, orderCase)

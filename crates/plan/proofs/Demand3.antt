@@ -15,7 +15,6 @@ use Rattle.plan.specs.Arithmetic.{sumOf, sum}
 use Rattle.plan.specs.Field.{slots, bytesOf, Fitting}
 use Rattle.plan.specs.Header.{Header, headerOf, riskCount}
 use Rattle.plan.specs.Losses.{Losses, lossesIn, SL}
-use Rattle.plan.specs.Marks.{LG, LH}
 use Rattle.plan.specs.Ratable.{ratable}
 use Rattle.plan.specs.Basic.{basicPremium, excessCharge}
 use Rattle.plan.specs.Premium.{Terms, termsOf, billedPremium, billedPremiums}
@@ -59,7 +58,7 @@ module _ (h : Header) (rs : List Losses) (b : GroupBounds h rs) (sound : Balance
   totalFor z = premiumTotal (length rs) (h .conversion) (h .tax) (excessCharge h rs) (ratable h rs) rs z
 
   total-is : totalFor (pos m) ≡ pos cost
-  total-is = ap totalFor is ∙ balance h rs (b .limited) (sound .ordered)
+  total-is = ap totalFor is ∙ balance h rs b
 
   no-other : (z : ℤ) → z ≢ pos m → totalFor z ≢ pos cost
   no-other z ne e =

@@ -69,7 +69,7 @@ module _ (h : Header) (rs : List Losses) (b : GroupBounds h rs) where
         mul-le-mul-left (length rs) LH-le,
       )
 
-  -- the terms of a group that passes 11 and 12
+  -- the terms of a group that passes 12
   module _ (sound : BalanceSound h rs) where
     pub basic-is : pos (natAbs (basicPremium h rs)) ≡ basicPremium h rs
     basic-is = amount-of (basicPremium h rs) (sound .not-negative)

@@ -3,6 +3,7 @@ pub mod Sums
 pub mod Rests
 pub mod Differences
 pub mod Rounding
+pub mod MarksInOrder
 pub mod Balance
 pub mod Fields
 pub mod Written
@@ -31,6 +32,7 @@ pub mod Charges
 pub mod Halvings
 pub mod PremiumTotals
 pub mod Plans
+pub mod QuestionFewer
 pub mod Decoded
 pub mod Writable
 pub mod RoundTrip

@@ -1,7 +1,8 @@
 -- Laws of the questions. The first No of a gate and a list that goes on from it is the gate's, else that of the rest; where all
 -- are passed, the answer looked up by any number that is asked is Yes. So a gate's Yes gives the facts that its questions ask
 -- for, and those facts give its Yes: each question has a line of its own in either direction. Leaving out a question that is
--- answered Yes changes no first No. A range of questions, as 1 to 9, has 18 in its place, after 6 and before 7, and 19 in its, after 9.
+-- answered Yes changes no first No. A range of questions, as 1 to 9, has 18 in its place, after 6 and before 7, and 19 in its, after 9;
+-- one that goes beyond 10 is without 11.
 -- Assumes nothing.
 use mathlib.Core.Path.{_≡_, refl, _∙_, ap}
 use mathlib.Core.Bool.{Bool, true, false, cond, _&&_, _||_}
@@ -16,7 +17,6 @@ use Rattle.plan.specs.Field.{bytesFor}
 use Rattle.plan.specs.File.{Group, risksOf, endOf, fillOf}
 use Rattle.plan.specs.Accidents.{allOpen}
 use Rattle.plan.specs.Losses.{Losses, SA, lossesIn}
-use Rattle.plan.specs.Marks.{LG, LH}
 use Rattle.plan.specs.Basic.{basicPremium}
 use Rattle.plan.specs.Questions.{Question, ask, Verdict, passed, failed, firstNo, orElse, knownEdition, question1, question2}
 use Rattle.plan.specs.Questions.{question10}
@@ -34,9 +34,9 @@ numbers (ask k b ∷ qs) = k ∷ numbers qs
 
 -- 'Rate asks 1 to 13. Table asks 1 to 10, then 14. Read asks 1 to 9, then 13. Write asks 3 to 7, then 15, then 13.' And document 02,
 -- job 2: '18 .., after 6 and before 7, in Rate, Read, Table and Write'; job 4: '19 .., after 9 in Rate, Read and Table, after 15 and
--- before 13 in Write', which 'asks question 2 of the edition first'
+-- before 13 in Write', which 'asks question 2 of the edition first'; job 7: 'take question 11 out of the rater'
 asked-in-order : (s : List ℕ) (room r countsRoom claimsRoom joinedRoom : ℕ) (g : Group)
-    → (numbers (rateQuestions s room) ≡ 1 ∷ 2 ∷ 3 ∷ 4 ∷ 5 ∷ 6 ∷ 18 ∷ 7 ∷ 8 ∷ 9 ∷ 19 ∷ 10 ∷ 11 ∷ 12 ∷ 13 ∷ [])
+    → (numbers (rateQuestions s room) ≡ 1 ∷ 2 ∷ 3 ∷ 4 ∷ 5 ∷ 6 ∷ 18 ∷ 7 ∷ 8 ∷ 9 ∷ 19 ∷ 10 ∷ 12 ∷ 13 ∷ [])
     × (numbers (tableQuestions s r) ≡ 1 ∷ 2 ∷ 3 ∷ 4 ∷ 5 ∷ 6 ∷ 18 ∷ 7 ∷ 8 ∷ 9 ∷ 19 ∷ 10 ∷ 14 ∷ [])
     × (numbers (readQuestions s countsRoom claimsRoom joinedRoom) ≡ 1 ∷ 2 ∷ 3 ∷ 4 ∷ 5 ∷ 6 ∷ 18 ∷ 7 ∷ 8 ∷ 9 ∷ 19 ∷ 13 ∷ [])
     × (numbers (writeQuestions g room) ≡ 2 ∷ 3 ∷ 4 ∷ 5 ∷ 6 ∷ 18 ∷ 7 ∷ 15 ∷ 19 ∷ 13 ∷ [])
@@ -247,18 +247,13 @@ loss-sound s e = record {
   some = leb-true _ _ (yes-to 10 (lossQuestions s) refl e);
 }
 
--- of a group that passes 11 and 12
+-- of a group that passes 12
 pub record BalanceSound (h : Header) (rs : List Losses) : Type 0 where
-  -- 11
-  pub ordered : LH h rs ≤ LG h rs
   -- 12
   pub not-negative : nonNeg (basicPremium h rs) ≡ true
 
 pub balance-sound : (h : Header) (rs : List Losses) → firstNo (balanceQuestions h rs) ≡ passed → BalanceSound h rs
-balance-sound h rs e = record {
-  ordered = leb-true _ _ (yes-to 11 (balanceQuestions h rs) refl e);
-  not-negative = yes-to 12 (balanceQuestions h rs) refl e;
-}
+balance-sound h rs e = record { not-negative = yes-to 12 (balanceQuestions h rs) refl e }
 
 -- of a file that passes 1 to 12
 pub record RatingSound (s : List ℕ) : Type 0 where

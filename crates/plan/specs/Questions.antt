@@ -1,6 +1,6 @@
 -- 'Asked in this order. The first No is the result, as that number and nothing else, and no lent byte or number changes. No
 -- refusal has another cause.' One definition a question; each call's list is made of their names. 18 is document 02's, job 2, and 19 is
--- job 4's.
+-- job 4's. 11, document 01's 'Is LH at most LG?', is not asked: job 7, 'take question 11 out of the rater. Its number isn't used again.'
 use mathlib.Core.Bool.{Bool, true, false, _&&_, _||_}
 use mathlib.Core.List.{List, [], _∷_, _++_}
 use Prim.Native.Nat.{ℕ, _*_}
@@ -18,7 +18,6 @@ use Rattle.plan.specs.Risk.{countWidth, divided}
 use Rattle.plan.specs.File.{Group, countsOf, risksOf, endOf, fillOf, claimsGiven, fileLength}
 use Rattle.plan.specs.Accidents.{allOpen}
 use Rattle.plan.specs.Losses.{Losses, SA, lossesIn}
-use Rattle.plan.specs.Marks.{LG, LH}
 use Rattle.plan.specs.Basic.{basicPremium}
 
 -- a question: the number of its No, and its answer
@@ -107,10 +106,6 @@ question19 rs = ask 19 (allOpen rs)
 abbrev pub question10 : List Losses → Question
 question10 rs = ask 10 (leb 1 (SA rs))
 
--- 'Is LH at most LG?'
-abbrev pub question11 : Header → List Losses → Question
-question11 h rs = ask 11 (leb (LH h rs) (LG h rs))
-
 -- 'Is M at least 0?'
 abbrev pub question12 : Header → List Losses → Question
 question12 h rs = ask 12 (nonNeg (basicPremium h rs))
@@ -151,7 +146,7 @@ question15 g =
     && eqb (length (g .joined)) (length (g .claims)))
 
 -- ---- the gates: lists that calls have in common. A range, as 1 to 9, has 18 in its place, 'after 6 and before 7', and where it goes
--- up to 9 or beyond 19, 'after 9 in Rate, Read and Table'
+-- up to 9 or beyond 19, 'after 9 in Rate, Read and Table'; a range that goes beyond 10 is without 11
 
 -- 3 to 7
 abbrev pub headerQuestions : Header → ℕ → List Question
@@ -165,9 +160,9 @@ endQuestions s = question8 s ∷ question9 s ∷ question19 (risksOf s) ∷ []
 abbrev pub fileQuestions : List ℕ → List Question
 fileQuestions s = question1 s ∷ question2 s ∷ (headerQuestions (headerOf s) (riskCount s) ++ endQuestions s)
 
--- 11 and 12
+-- 12
 abbrev pub balanceQuestions : Header → List Losses → List Question
-balanceQuestions h rs = question11 h rs ∷ question12 h rs ∷ []
+balanceQuestions h rs = question12 h rs ∷ []
 
 -- 1 to 10
 abbrev pub lossQuestions : List ℕ → List Question
@@ -183,7 +178,7 @@ ratingQuestions s = lossQuestions s ++ balanceQuestions (headerOf s) (lossesIn s
 abbrev pub rateEnough : List ℕ → ℕ → Bool
 rateEnough s room = leb (4 * riskCount s) room
 
--- 'Rate asks 1 to 13.'
+-- 'Rate asks 1 to 13.' And job 7: 'take question 11 out of the rater'
 abbrev pub rateQuestions : List ℕ → ℕ → List Question
 rateQuestions s room = ratingQuestions s ++ question13 (rateEnough s room) ∷ []
 

@@ -9,7 +9,7 @@ use Rattle.plan.specs.Questions.{Verdict, passed, failed, firstNo, ratingQuesti
 use Rattle.group.specs.Values.{firstOf, LossesAre}
 use Rattle.rating.specs.declared.details.Details.{Details}
 
--- K of each risk of a file that passes 1 to 12, with 18 and 19 in their places; of another file none
+-- K of each risk of a file that passes 1 to 12, with 18 and 19 in their places and without 11; of another file none
 abbrev pub ratablesAfter : Verdict → List ℕ → List ℕ
 ratablesAfter passed s = map (ratable (headerOf s) (lossesIn s)) (lossesIn s)
 ratablesAfter (failed k) s = []

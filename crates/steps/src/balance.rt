@@ -1,4 +1,4 @@
-// Steps 2 to 5 of a group, and questions 11 and 12: the terms that its bills share, or the question that failed.
+// Steps 2 to 5 of a group, and question 12: the terms that its bills share, or the question that failed.
 ghost use mathlib.Core.Path.{_≡_};
 ghost use Rattle.plan.specs.Marks.{dollars};
 ghost use Rattle.plan.specs.Questions.{firstNo, balanceQuestions};
@@ -53,7 +53,7 @@ fn marks_of(h: Header, losses: GroupLosses) -> MarkDollars
     MarkDollars { maximum, minimum }
 }
 
-// Steps 2 to 5, and questions 11 and 12.
+// Steps 2 to 5, and question 12.
 pub fn balance(h: Header, losses: GroupLosses) -> Balanced
     requires { ⌜ GroupIs h losses ⌝ }
     ensures { λ r. ⌜
@@ -64,9 +64,6 @@ pub fn balance(h: Header, losses: GroupLosses) -> Balanced
     let marks = marks_of(h, losses);
     let maximum = marks.maximum;
     let minimum = marks.minimum;
-    if maximum < minimum {
-        return Balanced::Refused(11);
-    }
     let limiteds = losses.limiteds;
     let spread = spread_of(&limiteds, losses.risks, 1, maximum as u64, minimum as u64);
     let c = h.conversion as u64;

@@ -1,4 +1,4 @@
-// Steps 2 to 6 of document 01 as small functions, and questions 11 and 12. They take a group's header values
+// Steps 2 to 6 of document 01 as small functions, and question 12. They take a group's header values
 // and losses; of the file nothing is known here.
 pub mod balance;
 pub mod basic;

@@ -127,8 +127,7 @@ fn random_groups_balance() {
         }
     }
     // Enough groups of each outcome in either edition, accidents that the limit
-    // cuts among them, and no refusal but the two that remain: marks in order
-    // give no No to 11.
+    // cuts among them, and no refusal but the two that remain.
     for accepted in accepted {
         assert!(accepted > 800, "only {accepted} accepted");
     }

@@ -668,6 +668,6 @@ fn first_no_of_generated_calls() {
     for k in [0, 12, 13, 16, 17, 18, 19] {
         assert!(results[k] > 30, "{k} only {} times", results[k]);
     }
-    // Those that are not asked, and 11, which no file fails that passed 18.
+    // Those that are not asked, and 11, which no call asks.
     assert_eq!(results[11] + results[14] + results[15], 0);
 }

@@ -370,7 +370,7 @@ fn write_asks_3_to_6_then_18_then_7_before_15() {
 }
 
 #[test]
-fn write_does_not_ask_10_to_12() {
+fn write_does_not_ask_10_or_12() {
     let header = four_risks().header;
     assert!(write(&header, &[0], &[], AMPLE).is_ok());
     assert!(write(&two_risks_of_ten(2_000).header, &[1, 1], &[10, 10], AMPLE).is_ok());
@@ -423,9 +423,8 @@ fn first_no_of_a_file_is_the_result() {
 }
 
 #[test]
-fn rate_asks_10_to_13_in_order() {
-    // No losses, a negative basic, and no space. Between 10 and 12 no file fails
-    // 11 that passed 18.
+fn rate_asks_10_12_and_13_in_order() {
+    // No losses, a negative basic, and no space.
     let mut sample = four_risks();
     sample.header.maximum_mark = 6_000;
     sample.header.expense = 0;

@@ -1,19 +1,16 @@
--- `steps::balance::balance` meets its contract: question 11 by the order of LH and LG, question 12 by M's
--- sign, and the terms where both pass, since the numbers that the code has are the group's. Assumes nothing.
+-- `steps::balance::balance` meets its contract: question 12 by M's sign, and the terms where it passes, since the
+-- numbers that the code has are the group's. Assumes nothing.
 use mathlib.Core.Path.{_≡_, sym, ap, _∙_}
 use mathlib.Core.Bool.{true, false}
-use mathlib.Core.List.{List, [], _∷_}
-use Prim.Native.Nat.{_≤_, _<_}
+use mathlib.Core.List.{List, []}
 use native.Mathlib.Omega.{arith}
 use borrow.Author.Needs.{needs}
-use borrow.Author.Tests.{le-leb, lt-leb}
 use lib.Signed.{nonNeg}
 use Rattle.plan.specs.Header as plan
 use Rattle.plan.specs.Losses.{Losses}
-use Rattle.plan.specs.Marks.{LG, LH}
 use Rattle.plan.specs.Basic.{basicPremium}
 use Rattle.plan.specs.Premium.{Terms, termsOf}
-use Rattle.plan.specs.Questions.{question12, balanceQuestions, firstNo}
+use Rattle.plan.specs.Questions.{balanceQuestions, firstNo}
 use Rattle.plan.specs.Calls.{Answer, refused, given, answer}
 use Rattle.plan.proofs.Questions.{goes-on, stops, answered}
 use Rattle.group.specs.Values.{headerIs, lossesIs}
@@ -25,26 +22,23 @@ use Rattle.steps.proofs.Group.{basic-bounds, basic-is, terms-are}
 use Rattle.steps.proofs.balance.balance.Statement.{statement}
 use Rattle.steps.proofs.balance.balance.Tie as tie
 
--- ---- what 11 and 12 come to
+-- ---- what 12 comes to
 
 module _ (h : plan.Header) (rs : List Losses) where
   abbrev Answers : Answer Terms → Type 0
   Answers a = a ≡ answer (firstNo (balanceQuestions h rs)) (termsOf h rs)
 
-  eleven : LG h rs < LH h rs → Answers (refused 11)
-  eleven l = sym (answered (termsOf h rs) (stops 11 (question12 h rs ∷ []) (lt-leb _ _ l)))
+  twelve : nonNeg (basicPremium h rs) ≡ false → Answers (refused 12)
+  twelve n = sym (answered (termsOf h rs) (stops 12 [] n))
 
-  twelve : LH h rs ≤ LG h rs → nonNeg (basicPremium h rs) ≡ false → Answers (refused 12)
-  twelve l n = sym (answered (termsOf h rs) (goes-on 11 (question12 h rs ∷ []) (le-leb _ _ l) ∙ stops 12 [] n))
-
-  terms : LH h rs ≤ LG h rs → nonNeg (basicPremium h rs) ≡ true → Answers (given (termsOf h rs))
-  terms l n = sym (answered (termsOf h rs) (goes-on 11 (question12 h rs ∷ []) (le-leb _ _ l) ∙ goes-on 12 [] n))
+  terms : nonNeg (basicPremium h rs) ≡ true → Answers (given (termsOf h rs))
+  terms n = sym (answered (termsOf h rs) (goes-on 12 [] n))
 
 -- ---- what is known on the way
 
 -- the places where LG and LH are known, and SX and SS
 abbrev marked : tie.After-spread-of → tie.After-marks-of
-marked c = c .before .before .before .before
+marked c = c .before .before .before
 
 abbrev spread : tie.After-basic-of → tie.After-spread-of
 spread c = c .before .before .before .before
@@ -64,20 +58,10 @@ basic-found c e =
     let m = marked s in
     basic-is (m .before .pre) (m .marks-of .ensures) (s .spread-of .ensures) (c .basic-of .ensures) e
 
--- a Yes to 11
-ordered : (c : tie.After-basic-of)
-    → let m = marked (spread c) in LH (header m) (losses m) ≤ LG (header m) (losses m)
-ordered c =
-    let s = spread c in
-    omega (arith, marked s .marks-of .ensures, s .before .before .before .if1 .left)
-
 -- ---- the needs
 
 marks-of-requires : tie.Need-marks-of-requires
 marks-of-requires c κs = search needs
-
-returns : tie.Need-returns
-returns c = eleven _ _ (omega (arith, c .before .marks-of .ensures))
 
 slice-aggregate-spread-of : tie.Need-slice-aggregate-spread-of
 slice-aggregate-spread-of c = search needs
@@ -90,7 +74,7 @@ cast-spread-of-2 c = search needs
 
 spread-of-requires : tie.Need-spread-of-requires
 spread-of-requires c κs =
-    let g = c .before .before .before .before .pre in
+    let g = c .before .before .before .pre in
     (omega arith, limiteds-enough (g .losses) (g .bounds .risks), omega arith, omega arith, omega arith)
 
 cast-c : tie.Need-cast-c
@@ -117,27 +101,26 @@ enum-known-basic c = search needs
 excess-of-requires : tie.Need-excess-of-requires
 excess-of-requires c κs = search needs
 
-returns-2 : tie.Need-returns-2
-returns-2 c =
+returns : tie.Need-returns
+returns c =
     let m = c .before .before in
     let found : m .basic-of .result ≡ Negative = cc in
-    twelve _ _ (ordered m) (basic-found m found)
+    twelve _ _ (basic-found m found)
 
-returns-3 : tie.Need-returns-3
-returns-3 c =
+returns-2 : tie.Need-returns-2
+returns-2 c =
     let m = c .before .before .before .before in
     let g = marked (spread m) in
     let found : m .basic-of .result ≡ Amount (c .before .before .basic .given .0 .0) = cc in
     let is = basic-found m found in
     ap given (terms-are (g .before .pre) (g .marks-of .ensures) is (c .excess-of .ensures))
-    ∙ terms _ _ (ordered m) (ap nonNeg (sym is))
+    ∙ terms _ _ (ap nonNeg (sym is))
 
 pub balance-spec : {M : Type 1} → statement M
 balance-spec =
     tie.close
     (tie.spec
     marks-of-requires
-    returns
     slice-aggregate-spread-of
     cast-spread-of
     cast-spread-of-2
@@ -149,5 +132,5 @@ balance-spec =
     enum-told
     enum-known-basic
     excess-of-requires
-    returns-2
-    returns-3)
+    returns
+    returns-2)
