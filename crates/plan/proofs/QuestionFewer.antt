@@ -25,13 +25,13 @@ use Rattle.plan.proofs.Questions.{numbers, asks, without, after-gate, g
 
 -- ---- 'With marks compared as written, LH can't exceed LG'
 
--- of every file that passes 6, 18 and 7, whatever SA; that it passes 18 is enough
-pub in-order : (s : List ℕ)
-    → firstNo (question6 (headerOf s) ∷ question18 (headerOf s) ∷ question7 (riskCount s) ∷ []) ≡ passed
-    → LH (headerOf s) (lossesIn s) ≤ LG (headerOf s) (lossesIn s)
-in-order s e =
-    LH≤LG (headerOf s) (lossesIn s)
-    (leb-true _ _ (yes-to 18 (question6 (headerOf s) ∷ question18 (headerOf s) ∷ question7 (riskCount s) ∷ []) refl e))
+-- 6, 18 and 7
+abbrev markQuestions : List ℕ → List Question
+markQuestions s = question6 (headerOf s) ∷ question18 (headerOf s) ∷ question7 (riskCount s) ∷ []
+
+-- of every file that passes them, whatever SA; that it passes 18 is enough
+pub in-order : (s : List ℕ) → firstNo (markQuestions s) ≡ passed → LH (headerOf s) (lossesIn s) ≤ LG (headerOf s) (lossesIn s)
+in-order s e = LH≤LG (headerOf s) (lossesIn s) (leb-true _ _ (yes-to 18 (markQuestions s) refl e))
 
 -- ---- 'Its number isn't used again'
 
