@@ -238,9 +238,9 @@ risks-fitting edition (k ∷ ks) js ds f e d = (
   f.0,
   fitting-append (slots_of_claims edition (take k (claims_of js ds))) (slots_of_risks edition ks (drop k (claims_of js ds)))
       (subst (λ (l : List Claim). Fitting (slots_of_claims edition l)) (sym (take-claims-of k js ds))
-      (claims-fitting edition (take k js) (take k ds) (fit-take _ k js e) (fit-take _ k ds d)))
+      (claims-fitting edition (take k js) (take k ds) (fit-take _ k js e) (fit-take dollars_width k ds d)))
       (subst (λ (l : List Claim). Fitting (slots_of_risks edition ks l)) (sym (drop-claims-of k js ds))
-      (risks-fitting edition ks (drop k js) (drop k ds) f.1 (fit-drop _ k js e) (fit-drop _ k ds d))),
+      (risks-fitting edition ks (drop k js) (drop k ds) f.1 (fit-drop _ k js e) (fit-drop dollars_width k ds d))),
 )
 
 pub counts_fit : (s : List ℕ) (at n : ℕ) → all_fit count_width (counts_from s at n) ≡ true
