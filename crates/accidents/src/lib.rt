@@ -1,5 +1,7 @@
 // The sums of edition 2, where a claim whose bit is 1 adds to the accident before it: what a claim more does to them, what a pair of
 // claims from one word does, and what they come to when the last accident has ended.
+#![tactic(auto)]
+
 ghost use Rattle.std.specs.Prelude.{◌≤◌};
 ghost use Rattle.plan.specs.Claim.{claim};
 ghost use Rattle.plan.specs.Sizes.{largest_claim};

@@ -1,6 +1,8 @@
 // Fields of bits in a file: one after another, most significant bit first, without gaps. A field is taken or
 // put at a place, and either hands on the next place. `plan` defines what a field is; a bit past the end is 0.
 // Nothing here knows what a field means, or asks whether a file has it: that is for the file's reader.
+#![tactic(auto)]
+
 ghost use Rattle.std.specs.Prelude.{◌≡◌, ◌+◌, ◌-◌, ◌/◌, ◌%◌, ◌^◌, ◌≤◌, ◌<◌, length};
 ghost use Rattle.bits.specs.Take.{Reach, Took, FrontReach, FrontTaken};
 ghost use Rattle.bits.specs.Put.{Room, FiveBytes, Put, InByte};

@@ -1,5 +1,7 @@
 // Charges of the 1965 table: the charge of a column at an entry ratio by formula (3) of document 003, nested, in doubles in the order
 // that document 02 writes, and its thousandths.
+#![tactic(auto)]
+
 ghost use Rattle.std.specs.Prelude.{◌≡◌, ◌≤◌};
 ghost use Rattle.plan.specs.Matrix.{first_column, last_column};
 ghost use Rattle.plan.specs.Charge as table;

@@ -1,6 +1,8 @@
 // The counts of a group file: a risk's number of claims, whether its first claim opens an accident, and both of all risks, with the
 // place where the last field ends. No claim is looked at but for the bit of each risk's first. They are taken whatever the file's
 // length, since bits past the end are 0, so it is a matter of the bytes alone.
+#![tactic(auto)]
+
 ghost use Rattle.std.specs.Prelude.{◌≡◌, ◌+◌, ◌≤◌};
 ghost use Rattle.plan.specs.Header.{edition_of, header_bits};
 ghost use Rattle.plan.specs.Risk.{count_width};

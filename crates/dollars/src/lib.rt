@@ -1,5 +1,7 @@
 // A run of claims without bits put by pairs, the dollars of two as five whole bytes. The places in the loop are made of a byte's number,
 // so that each is seen to begin with a byte: whole bytes are then stored without a look at the bit.
+#![tactic(auto)]
+
 ghost use Rattle.plan.specs.Field.{slots};
 ghost use Rattle.plan.specs.Claim.{dollars_width};
 ghost use Rattle.bits.specs.Runs.{Space, Wrote};

@@ -1,6 +1,8 @@
 // What is asked of given values: question 15, whether n, counts, claims, bits and header values fit
 // their widths, the counts add to the number of claims, and there are as many bits; and question 19, whether each risk's first
 // claim has the bit 0.
+#![tactic(auto)]
+
 ghost use Rattle.std.specs.Prelude.{◌≡◌, ◌&&◌, ◌<◌, ◌≤◌, eqb, length};
 ghost use Rattle.plan.specs.Arithmetic.{sum};
 ghost use Rattle.plan.specs.Sizes.{most_risks};

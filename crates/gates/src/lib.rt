@@ -1,5 +1,7 @@
 // Questions 1 to 10 and 1 to 12 of a file, 18 and 19 in their places among them and 11 not, with what the calls go on from. They need
 // no buffer: a call asks its own last questions after them, before anything is stored.
+#![tactic(auto)]
+
 ghost use Rattle.plan.specs.Questions.{loss_questions};
 ghost use Rattle.groupfile.specs.Opening.{OpenedIs};
 ghost use Rattle.gates.specs.Gates.{TenAsked, RatingOpenedIs};

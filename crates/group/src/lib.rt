@@ -1,5 +1,7 @@
 // A group's values as the calls hand them to each other: the header values, what questions come to, and the losses. What each
 // means in document 01 is in specs/; nothing here knows how they lie in a file.
+#![tactic(auto)]
+
 ghost use Rattle.std.specs.Prelude.{◌≡◌};
 ghost use Rattle.plan.specs.Questions.{or_else};
 ghost use Rattle.group.specs.Values.{verdict_is};

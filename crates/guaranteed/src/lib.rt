@@ -1,5 +1,7 @@
 // Guaranteed cost beside the retro premium: what Rate gives on a file, the discount of its standard premium by a schedule,
 // guaranteed cost, and what each risk is billed above or below it.
+#![tactic(auto)]
+
 ghost use Rattle.std.specs.Prelude.{◌≡◌, ◌&&◌, [], ◌∷◌, ◌*◌, leb, pos, ◌+ℤ◌, ◌-ℤ◌, length};
 ghost use Rattle.std.specs.Int.{w64};
 ghost use Rattle.std.proofs.Common.{SFits};

@@ -1,5 +1,7 @@
 // The header of a group file: its eleven fields, taken one after another; whether an edition is known; and
 // questions 3 to 7 of header values, with 18 after 6.
+#![tactic(auto)]
+
 ghost use Rattle.std.specs.Prelude.{◌≡◌};
 ghost use Rattle.plan.specs.Questions.{first_no, known_edition, header_questions};
 ghost use Rattle.group.specs.Values.{header_is, verdict_is};

@@ -1,4 +1,6 @@
 // The claims of a risk in edition 2: a claim whose bit is 1 adds to the accident before it.
+#![tactic(auto)]
+
 ghost use Rattle.std.specs.Prelude.{◌≡◌};
 ghost use Rattle.plan.specs.Claim.{joined_width};
 ghost use Rattle.plan.specs.Header.{edition_of};

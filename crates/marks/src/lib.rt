@@ -1,5 +1,7 @@
 // The two measures of a mark, both in thousandths, each with its own conversion to whole dollars, rounded down. A mark is one
 // of them from the moment it leaves the header until it is dollars, so that neither can be taken for the other.
+#![tactic(auto)]
+
 ghost use Rattle.std.specs.Prelude.{◌≡◌, ◌*◌, ◌^◌, ◌≤◌, ◌<◌};
 ghost use Rattle.plan.specs.Sizes.{most_risks, most_risk_losses, most_mark};
 ghost use Rattle.plan.specs.Header.{standard_premium_field};

@@ -1,4 +1,6 @@
 // The matrix of the 1965 table: the coefficients b2 to b8 of a column, in doubles.
+#![tactic(auto)]
+
 ghost use Rattle.std.specs.Prelude.{◌≡◌, ◌≤◌};
 ghost use Rattle.plan.specs.Matrix.{first_column, last_column};
 ghost use Rattle.plan.specs.Charge.{from_ten_millionths};

@@ -3,6 +3,8 @@
 // byte. In edition 2 two claims have two bits more: after a pair two more are held than before it, and where these are eight or more,
 // one more byte is stored. What a pair stored is not looked at again. Here are a claim and a pair as one number, and the laws of the
 // loops over pairs; the loops are in `dollars` and `runs`.
+#![tactic(auto)]
+
 ghost use Rattle.std.specs.Prelude.{◌≡◌, ◌+◌, ◌*◌, ◌^◌, ◌≤◌, ◌<◌};
 ghost use Rattle.plan.specs.Sizes.{most_claim_width};
 ghost use Rattle.plan.specs.Claim.{dollars_width};

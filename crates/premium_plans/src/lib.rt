@@ -1,5 +1,7 @@
 // Plans sold on premiums: the least basic premium of whole dollars whose premiums, each held between a minimum and a maximum, total at
 // least the taxed expenses and losses of a file's group, found by trials.
+#![tactic(auto)]
+
 ghost use Rattle.std.specs.Prelude.{◌≡◌, [], ◌∷◌, ◌≤◌, pos, ◌-ℤ◌};
 ghost use Rattle.plan.specs.Questions.{ask, first_no};
 ghost use Rattle.plan.specs.Calls.{answer};

@@ -1,5 +1,7 @@
 // The fields of a group file put one after another: the header's in two runs, the risks', and the fill. That the
 // values fit and the buffer has room was asked before.
+#![tactic(auto)]
+
 ghost use Rattle.std.specs.Prelude.{◌≡◌, ◌≤◌, length};
 ghost use Rattle.plan.specs.Arithmetic.{sum};
 ghost use Rattle.plan.specs.Calls.{filled};

@@ -1,5 +1,7 @@
 // Read: a file's edition and header values, claim counts, claims and their bits. The questions are decided by the counts and the bits
 // of first claims; then the claims are gone over, once, to store them.
+#![tactic(auto)]
+
 ghost use Rattle.std.specs.Prelude.{◌≡◌, map, ◌+◌, ◌≤◌, length};
 ghost use Rattle.std.proofs.Math.Seq.{paste};
 ghost use Rattle.plan.specs.Calls.{filled};

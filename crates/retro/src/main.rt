@@ -2,6 +2,8 @@
 // reads one byte more than the largest file has: of a longer input the header is the same, and question 8 is answered No for
 // the part read as for the whole. An input that cannot be read, output that cannot be written and an argument are no refusals:
 // each is told on standard error.
+#![tactic(auto)]
+
 ghost use Rattle.retro.specs.Input.{Within};
 
 use bits::BitPlace;

@@ -1,6 +1,8 @@
 // The calls for C and for test programs: Rate, Table, Read, Write, guaranteed cost beside Rate, a charge of the 1965 table and a plan
 // sold on premiums, on numbers and slices, one match each. What a call gives is said in include/retro.h; each contract here is an equation
 // with documents 01 and 02, refusals included.
+#![tactic(auto)]
+
 ghost use Rattle.std.specs.Prelude.{◌≡◌, length};
 ghost use Rattle.plan.specs.Calls.{rate, Demand3After};
 ghost use Rattle.reading.specs.Reading.{buffers};

@@ -1,4 +1,6 @@
 // A risk as the file has it, its claims by the loop of their edition, and a risk passed: the running sums with it.
+#![tactic(auto)]
+
 ghost use Rattle.std.specs.Prelude.{◌≡◌, ◌+◌, ◌≤◌};
 ghost use Rattle.plan.specs.Header.{edition_of};
 ghost use Rattle.plan.specs.Risk.{count_width};

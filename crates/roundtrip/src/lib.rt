@@ -1,1 +1,2 @@
 // No code: proofs/RoundTrip.antt joins the contracts of Read and of Write.
+#![tactic(auto)]

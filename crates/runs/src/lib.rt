@@ -1,6 +1,8 @@
 // A run of claims of either edition put: those with bits by pairs, each pair as five bytes and two bits more to be held, and those
 // without by the crate `dollars`. The places in the loop are made of a byte's number, so that each is seen to begin with a byte: whole
 // bytes are then stored without a look at the bit.
+#![tactic(auto)]
+
 ghost use Rattle.std.specs.Prelude.{◌≡◌, length};
 ghost use Rattle.plan.specs.Claim.{slots_of_claims, claims_of};
 ghost use Rattle.bits.specs.Runs.{Space, Wrote};

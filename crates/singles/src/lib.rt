@@ -1,4 +1,6 @@
 // The claims of a risk in edition 1: each claim is its own accident.
+#![tactic(auto)]
+
 ghost use Rattle.std.specs.Prelude.{◌≡◌};
 ghost use Rattle.plan.specs.Claim.{joined_width};
 ghost use Rattle.plan.specs.Header.{edition_of};

@@ -1,4 +1,6 @@
 // Table: charge and savings of a file's group at an entry ratio.
+#![tactic(auto)]
+
 ghost use Rattle.std.specs.Prelude.{◌≡◌, ◌*◌};
 ghost use Rattle.plan.specs.Arithmetic.{nearest};
 ghost use Rattle.plan.specs.Calls as plan;

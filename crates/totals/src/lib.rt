@@ -1,5 +1,7 @@
 // The premiums of a plan that is sold on premiums, by a basic premium of whole dollars: one premium, held between the minimum and the
 // maximum, their total, and whether it reaches what they are to pay. Totals leave 64 bits, so they are kept and compared in two parts.
+#![tactic(auto)]
+
 ghost use Rattle.std.specs.Prelude.{◌≡◌, ◌+◌, ◌*◌, ◌^◌, ◌<◌, leb, take};
 ghost use Rattle.plan.specs.Arithmetic.{sum_of};
 ghost use Rattle.plan.specs.SoldOnPremiums.{held_premium};

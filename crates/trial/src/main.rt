@@ -1,5 +1,7 @@
 // Document 01's worked figures and the cases that it wants by program only, and document 02's scaffold, run on the calls: a line for
 // each. What the lines must be is in the file `stdout`, worked out from documents 01, 02 and 001.
+#![tactic(auto)]
+
 use group::Header;
 use libc::STDOUT_FILENO;
 use rating::rates::{Rated, rate};

@@ -1,6 +1,8 @@
 // The walk over a file's claims, a risk a turn: step 1's losses of each risk and of the group, whether every risk's first claim opens
 // an accident, and where the last field ends. It is taken whatever the file's length, since bits past the end are 0, so it is a
 // matter of the bytes alone.
+#![tactic(auto)]
+
 ghost use Rattle.std.specs.Prelude.{◌≡◌, ◌≤◌};
 ghost use Rattle.plan.specs.Header.{edition_of, header_bits};
 ghost use Rattle.plan.specs.Sizes.{most_risks};

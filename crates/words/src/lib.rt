@@ -1,5 +1,7 @@
 // Bits of a word of eight bytes and of one byte, by shifts and masks: the word from a byte of a file on, some bits of it, and a
 // byte with some bits put in. Bytes past the end of the file are 0.
+#![tactic(auto)]
+
 ghost use Rattle.std.specs.Prelude.{◌≡◌, ◌+◌, ◌-◌, ◌*◌, ◌/◌, ◌%◌, ◌^◌, ◌≤◌, ◌<◌, length};
 ghost use Rattle.plan.specs.Field.{field};
 ghost use Rattle.words.specs.Words.{Joins, Inserted};

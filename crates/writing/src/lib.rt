@@ -1,3 +1,5 @@
 // Write: given values as the bytes of a group file. What it asks of them, questions 15 and 19, is the crate `fitting`. All questions
 // are decided before the first byte is stored.
+#![tactic(auto)]
+
 pub mod writer;
