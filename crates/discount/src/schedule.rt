@@ -18,7 +18,7 @@ const MOST_RATE: u32 = 1000;
 
 // A row of a schedule: whole dollars, and tenths of a percent. The width in the last row is not looked at.
 #[repr(C)]
-#[derive(Drop)]
+#[derive(Clone, Copy)]
 pub struct Layer {
     pub width: u32,
     pub rate: u32,
@@ -26,7 +26,7 @@ pub struct Layer {
 
 // A schedule: its layers, the first first.
 #[repr(C)]
-#[derive(Drop)]
+#[derive(Clone, Copy)]
 pub struct Schedule {
     pub layers: [Layer; LAYERS],
 }

@@ -18,7 +18,7 @@ pub const LARGEST_FILE: usize = 42378;
 
 // The header values, loss limit to minimum mark.
 #[repr(C)]
-#[derive(Drop)]
+#[derive(Clone, Copy)]
 pub struct Header {
     pub loss_limit: u32,
     pub standard_premium: u32,
@@ -31,7 +31,7 @@ pub struct Header {
 }
 
 // What questions come to: all passed, or the number of the first that failed.
-#[derive(Drop)]
+#[derive(Clone, Copy)]
 pub enum Verdict {
     Passed,
     Failed(u32),
@@ -48,7 +48,7 @@ pub fn first_of(first: Verdict, second: Verdict) -> Verdict
 }
 
 // The losses of a group: n, SL and SA, and L and A of each risk in the first n entries.
-#[derive(Drop)]
+#[derive(Clone, Copy)]
 pub struct GroupLosses {
     pub risks: u32,
     pub total: u64,

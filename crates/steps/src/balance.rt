@@ -16,14 +16,14 @@ use group::{GroupLosses, Header};
 use marks::{Mark, mark_of};
 
 // LG and LH.
-#[derive(Drop)]
+#[derive(Clone, Copy)]
 pub(crate) struct MarkDollars {
     pub maximum: u32,
     pub minimum: u32,
 }
 
 // The terms, or the number of the question that failed.
-#[derive(Drop)]
+#[derive(Clone, Copy)]
 pub enum Balanced {
     Given(Terms),
     Refused(u32),

@@ -5,7 +5,7 @@ ghost use Rattle.plan.specs.Basic.{basic_of, excess_of};
 ghost use Rattle.steps.specs.Basic.{BasicBounds, basic_is, ExcessBounds};
 
 // The basic premium where it is at least 0.
-#[derive(Drop)]
+#[derive(Clone, Copy)]
 pub(crate) enum Basic {
     Amount(u64),
     Negative,

@@ -9,7 +9,7 @@ ghost use Rattle.steps.specs.Terms.{terms_is};
 pub const PREMIUM_SCALE: u64 = 10000000;
 
 // What the bills of a group share: n, c, T, M, Q, LH and LG.
-#[derive(Drop)]
+#[derive(Clone, Copy)]
 pub struct Terms {
     pub risks: u32,
     pub conversion: u32,

@@ -5,7 +5,7 @@ ghost use Rattle.plan.specs.Sizes.{most_risks};
 ghost use Rattle.steps.specs.Spread.{SpreadIs};
 
 // What is above and what is below.
-#[derive(Drop)]
+#[derive(Clone, Copy)]
 pub struct Spread {
     pub above: u64,
     pub below: u64,

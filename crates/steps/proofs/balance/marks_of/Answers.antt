@@ -1,0 +1,23 @@
+-- The dollars of each mark are those of the group, since n and SA are the group's.
+use Rattle.std.proofs.Common.{◌≡◌, ◌∙◌, ℕ, length}
+use Rattle.plan.specs.Losses.{SA}
+use Rattle.plan.specs.Marks.{mark_of, dollars, LG, LH}
+use Rattle.marks.specs.Measures.{mark_is}
+use Rattle.marks.specs.declared.Mark.{Mark}
+use Rattle.group.specs.Values.{losses_is, GroupIs}
+use Rattle.group.specs.declared.Header.{Header}
+use Rattle.group.specs.declared.GroupLosses.{GroupLosses}
+use Rattle.steps.proofs.balance.marks_of.Goals as goal
+
+-- of a group, a mark that its kind makes of x thousandths
+dollars-are : {h : Header} {g : GroupLosses} → GroupIs h g → (m : Mark) (x : ℕ) → mark_is m ≡ mark_of h.mark_kind x
+    → dollars (mark_is m) h.standard_premium g.risks g.limited
+    ≡ dollars (mark_of h.mark_kind x) h.standard_premium (length (losses_is g)) (SA (losses_is g))
+dollars-are {h} b m x is = λ i. dollars (is i) h.standard_premium (b.losses.risks i) (b.losses.limited i)
+
+pub returns : goal.returns
+unfolding LG LH
+returns c = record {
+  maximum = c.dollars_of-maximum.ensures ∙ dollars-are c.requires c.mark_of-highest.result _ c.mark_of-highest.ensures;
+  minimum = c.dollars_of-minimum.ensures ∙ dollars-are c.requires c.mark_of-lowest.result _ c.mark_of-lowest.ensures;
+}
