@@ -23,7 +23,7 @@ const PAIR_BITS: u64 = 9223376434901286912;
 
 // The sums of some claims of a risk, of which the last accident may go on: L of them, L of those before the last accident, and what
 // the limit leaves of the accidents before it.
-#[derive(Drop)]
+#[derive(Clone, Copy)]
 pub struct AccidentSums {
     pub total: u32,
     pub start: u32,

@@ -10,20 +10,20 @@ ghost use Rattle.bits.specs.Put.{Room, FiveBytes, Put, InByte};
 use words::{bits_after, extract, insert, word_within};
 
 // A place between two bits of a file, counted from its first bit.
-#[derive(Drop)]
+#[derive(Clone, Copy)]
 pub struct BitPlace {
     pub at: usize,
 }
 
 // A field's value, and the place where the field ended.
-#[derive(Drop)]
+#[derive(Clone, Copy)]
 pub struct Taken {
     pub value: u32,
     pub next: BitPlace,
 }
 
 // Bits of a file on the front of a word, its highest, and the place where those that were taken end.
-#[derive(Drop)]
+#[derive(Clone, Copy)]
 pub struct Front {
     pub bits: u64,
     pub next: BitPlace,

@@ -25,7 +25,7 @@ pub const MOST_CLAIM_WIDTH: u32 = 21;
 pub const LARGEST_CLAIM: u32 = 1048575;
 
 // A claim, its bit and its dollars, and the place where it ended.
-#[derive(Drop)]
+#[derive(Clone, Copy)]
 pub struct TakenClaim {
     pub joined: u32,
     pub dollars: u32,

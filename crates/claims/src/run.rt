@@ -6,7 +6,7 @@ ghost use Rattle.plan.specs.Losses.{limited_to};
 use bits::BitPlace;
 
 // A run of claims as the file has it: L and A, and the place after it.
-#[derive(Drop)]
+#[derive(Clone, Copy)]
 pub struct ClaimRun {
     pub total: u32,
     pub limited: u32,

@@ -22,7 +22,7 @@ const HEAD_WIDTH: u32 = 7;
 const BIT_LOW: u32 = 57;
 
 // What a risk begins with: the number of its claims, whether its first claim opens an accident, and the place of that claim.
-#[derive(Drop)]
+#[derive(Clone, Copy)]
 pub struct RiskHead {
     pub count: u32,
     pub opened: bool,
@@ -31,7 +31,7 @@ pub struct RiskHead {
 
 // What the counts of risks tell, and the bits of their first claims: the place where the last field ends, how many claims there are,
 // and whether each risk's first claim opens an accident.
-#[derive(Drop)]
+#[derive(Clone, Copy)]
 pub struct Counted {
     pub end: BitPlace,
     pub claims: u32,

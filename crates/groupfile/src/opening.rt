@@ -19,7 +19,7 @@ pub const HEADER_BYTES: usize = 16;
 
 // The risks as they lie in a file, for a call that goes over their claims: the edition, the place of the first, and the number of all
 // claims. A file opened with its losses has them too, for a call that goes over the claims again.
-#[derive(Drop)]
+#[derive(Clone, Copy)]
 pub struct RiskRun {
     pub edition: u32,
     pub first: BitPlace,
@@ -36,7 +36,7 @@ pub struct Opened {
 }
 
 // The same without the losses, and n in their place.
-#[derive(Drop)]
+#[derive(Clone, Copy)]
 pub struct Outline {
     pub verdict: Verdict,
     pub header: Header,

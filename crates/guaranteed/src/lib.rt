@@ -24,7 +24,7 @@ use steps::bill::{Terms, bill_at};
 
 // What the call gives beside the premiums and the differences: what Rate gives, the discount, guaranteed cost, and the sum of
 // the differences.
-#[derive(Drop)]
+#[derive(Clone, Copy)]
 pub struct Comparison {
     pub rated: GroupFigures,
     pub discount: u32,
@@ -33,7 +33,7 @@ pub struct Comparison {
 }
 
 // What the call gives, or the number of the first question that failed.
-#[derive(Drop)]
+#[derive(Clone, Copy)]
 pub enum Compared {
     Given(Comparison),
     Refused(u32),

@@ -33,7 +33,7 @@ pub const RISKS_WIDTH: u32 = 8;
 pub const SPARE_WIDTH: u32 = 1;
 
 // Edition to loss conversion factor, and the place after them.
-#[derive(Drop)]
+#[derive(Clone, Copy)]
 struct FirstFields {
     pub edition: u32,
     pub loss_limit: u32,
@@ -44,7 +44,7 @@ struct FirstFields {
 }
 
 // Tax multiplier to spare bit, and the place after them.
-#[derive(Drop)]
+#[derive(Clone, Copy)]
 struct LastFields {
     pub tax: u32,
     pub mark_kind: u32,
@@ -56,7 +56,7 @@ struct LastFields {
 }
 
 // The header as a file has it: the header values, what stands around them, and the place where the header ends.
-#[derive(Drop)]
+#[derive(Clone, Copy)]
 pub struct FileHeader {
     pub edition: u32,
     pub values: Header,

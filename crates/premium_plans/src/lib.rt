@@ -19,7 +19,7 @@ use totals::{Parts, PlanTerms, owed_of, reaches};
 pub const MOST_BASIC: u32 = 1048575;
 
 // The trials made, the best basic premium yet that reaches the total, and the largest known to fall short, −1 if none.
-#[derive(Drop)]
+#[derive(Clone, Copy)]
 pub struct PlanFound {
     pub made: u32,
     pub best: u32,
@@ -27,7 +27,7 @@ pub struct PlanFound {
 }
 
 // What the call gives, or the number of the first question that failed.
-#[derive(Drop)]
+#[derive(Clone, Copy)]
 pub enum Planned {
     Given(PlanFound),
     Refused(u32),

@@ -12,7 +12,7 @@ use steps::balance::Balanced;
 use steps::bill::{Terms, bill_at};
 
 // What Rate gives beside the premiums: n, M, Q and the sum billed.
-#[derive(Drop)]
+#[derive(Clone, Copy)]
 pub struct GroupFigures {
     pub risks: u32,
     pub basic: u64,
@@ -21,7 +21,7 @@ pub struct GroupFigures {
 }
 
 // What Rate gives, or the number of the first question that failed.
-#[derive(Drop)]
+#[derive(Clone, Copy)]
 pub enum Rated {
     Given(GroupFigures),
     Refused(u32),

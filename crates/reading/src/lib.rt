@@ -18,7 +18,7 @@ use group::{Header, Verdict};
 use groupfile::opening::open_outline;
 
 // What Read gives beside the buffers: the edition, the number of risks and the header values.
-#[derive(Drop)]
+#[derive(Clone, Copy)]
 pub struct ReadValues {
     pub edition: u32,
     pub risks: u32,
@@ -26,7 +26,7 @@ pub struct ReadValues {
 }
 
 // What Read gives, or the number of the first question that failed.
-#[derive(Drop)]
+#[derive(Clone, Copy)]
 pub enum GroupRead {
     Given(ReadValues),
     Refused(u32),

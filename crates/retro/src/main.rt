@@ -13,7 +13,7 @@ use rating::details::{Details, details_of};
 use rating::rates::{GroupFigures, Rated, rate};
 
 // How many bytes were read, or that a read failed.
-#[derive(Drop)]
+#[derive(Clone, Copy)]
 enum Input {
     Read(usize),
     Failed,

@@ -27,7 +27,7 @@ use writing::writer::Written;
 
 // Read's answer: 0 or the refusal, n, the header values and the edition; where it is a refusal all else is 0.
 #[repr(C)]
-#[derive(Drop)]
+#[derive(Clone, Copy)]
 pub struct RetroGroup {
     pub refused: u32,
     pub risks: u32,

@@ -18,7 +18,7 @@ use joined::joined_claims;
 use singles::single_claims;
 
 // A risk as the file has it: the number of its claims, whether its first claim opens an accident, L and A, and the place after it.
-#[derive(Drop)]
+#[derive(Clone, Copy)]
 pub struct Risk {
     pub count: u32,
     pub opened: bool,
@@ -29,7 +29,7 @@ pub struct Risk {
 
 // The running sums over the risks passed so far: how many they are, how many claims they have, whether the first claim of each opens
 // an accident, SL and SA so far, and the place of the next risk.
-#[derive(Drop)]
+#[derive(Clone, Copy)]
 pub struct SumsSoFar {
     pub risks: u32,
     pub claims: u32,
@@ -40,7 +40,7 @@ pub struct SumsSoFar {
 }
 
 // A risk passed: its L and A, and the running sums with it.
-#[derive(Drop)]
+#[derive(Clone, Copy)]
 pub struct PassedRisk {
     pub total: u32,
     pub limited: u32,

@@ -16,7 +16,7 @@ use claims::run::{ClaimRun, limited_to};
 const SINGLE_PAIR_WIDTH: u32 = 40;
 
 // The sums of some claims of a risk, each an accident of its own: L and A of them.
-#[derive(Drop)]
+#[derive(Clone, Copy)]
 struct ClaimSums {
     pub total: u32,
     pub limited: u32,

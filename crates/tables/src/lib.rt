@@ -14,14 +14,14 @@ use steps::spread::spread_of;
 pub const MOST_RATIO: u32 = 600;
 
 // Charge and savings, in thousandths.
-#[derive(Drop)]
+#[derive(Clone, Copy)]
 pub struct Ratios {
     pub charge: u32,
     pub savings: u32,
 }
 
 // What Table gives, or the number of the first question that failed.
-#[derive(Drop)]
+#[derive(Clone, Copy)]
 pub enum Tabled {
     Given(Ratios),
     Refused(u32),

@@ -16,7 +16,7 @@ use header::{header_verdict, known_edition};
 use putting::put_file;
 
 // What Write gives: the file's length, or the number of the first question that failed.
-#[derive(Drop)]
+#[derive(Clone, Copy)]
 pub enum Written {
     Length(usize),
     Refused(u32),
