@@ -4,7 +4,7 @@
 // each is told on standard error.
 #![tactic(auto)]
 
-ghost use Rattle.retro.specs.Input.{Within};
+ghost use Rattle.retro.specs.Input.{Within, ReadsAll};
 
 use bits::BitPlace;
 use group::{LARGEST_FILE, MOST_RISKS};
@@ -26,8 +26,9 @@ enum Input {
 }
 
 // Reads until the input ends or the buffer is full.
-fn read_input(reader: &mut impl Read, input: &mut [u8]) -> Input
-    ensures { Within result input.new }
+fn read_input<R: Read>(reader: &mut R, input: &mut [u8]) -> Input
+    ensures within { Within result input.new }
+    ensures all { ReadsAll result (R.remaining reader.old) (R.remaining reader.new) input.new }
 {
     let mut done: usize = 0;
     while done < input.len() {
@@ -134,8 +135,8 @@ fn tell(rt: &impl Eprint, what: &str, error: io::Error) {
     let _ = eprintln!(rt; "retro: {what}: {words}");
 }
 
-// The exit status where the output cannot be written. Where nobody reads it any more nothing is told, and the status is the one that
-// a shell gives a program that SIGPIPE ended.
+// The exit status where the output cannot be written. Where nobody reads it any more nothing is told, and the status is
+// the one that a shell gives a program that SIGPIPE ended.
 fn unwritten(rt: &impl Eprint, error: io::Error) -> ExitCode {
     if error.kind() == ErrorKind::BrokenPipe {
         return ExitCode::from(128 + SIGPIPE);

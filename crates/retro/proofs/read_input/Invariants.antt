@@ -1,9 +1,15 @@
--- The bytes read so far stand in the buffer, which keeps its length; each turn leaves less room, or is the last.
+-- The bytes read so far stand in the buffer, which keeps its length, and are those that the reader gave; each turn
+-- leaves less room, or is the last.
 use Rattle.std.proofs.Common.{length, ◌-◌, ◌≡◌, ◌≤◌}
+use Rattle.std.specs.Prelude.{take}
+use Rattle.std.specs.Io.KnownBytes.{Consumes}
 use Rattle.retro.proofs.read_input.Given as goal
 
 abbrev pub invariant-loop-done : goal.invariant-loop-done
-invariant-loop-done g l = (l.done ≤ length l.input) × (length l.input ≡ length l.initial.input)
+invariant-loop-done g l =
+    (l.done ≤ length l.input)
+    × (length l.input ≡ length l.initial.input)
+    × Consumes (g.R.Read.remaining l.initial.reader) (g.R.Read.remaining l.reader) (take l.done l.input)
 
 abbrev pub decreases-loop-done : goal.decreases-loop-done
 decreases-loop-done g l = length l.initial.input - l.done

@@ -1,0 +1,2 @@
+-- The law of reads one after another.
+mod Reading
