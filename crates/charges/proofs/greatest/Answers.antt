@@ -7,10 +7,12 @@ use Rattle.charges.proofs.Literals.{one, thousand}
 use Rattle.charges.proofs.greatest.Goals as goal
 
 -- the code's tests as the definitions'
-at_one : (y : Float) (b : Bool) → le (of_bits binary64 0x3ff0_0000_0000_0000) y ≡ b → at_most (whole 1) y ≡ b
+at_one : (y : Float) (b : Bool) → le (of_bits binary64 0x3ff0_0000_0000_0000) y ≡ b
+    → at_most (whole 1) y ≡ b
 at_one y b t = ap (λ (x : Float). le x y) (sym one) ∙ t
 
-at-thousand : (y : Float) (b : Bool) → le (of_bits binary64 0x408f_4000_0000_0000) y ≡ b → at_most (whole 1000) y ≡ b
+at-thousand : (y : Float) (b : Bool) → le (of_bits binary64 0x408f_4000_0000_0000) y ≡ b
+    → at_most (whole 1000) y ≡ b
 at-thousand y b t = ap (λ (x : Float). le x y) (sym thousand) ∙ t
 
 cut : (y : Float) → le (of_bits binary64 0x3ff0_0000_0000_0000) y ≡ true
