@@ -5,6 +5,9 @@ use borrow.Author.Rules.{rules}
 use Rattle.risks.proofs.Passing.{risk-most, place-most, claims-most, total_most, limited_most, risk-passed}
 use Rattle.risks.proofs.pass_risk.Goals as goal
 
+pub risk_at-risk-requires : goal.risk_at-risk-requires
+risk_at-risk-requires c = (omega (arith, place-most c.requires.0.sums, c.requires.0.few), c.requires.1)
+
 pub overflow_add-claims : goal.overflow_add-claims
 overflow_add-claims c =
     omega (arith, claims-most c.requires.0.sums, c.requires.0.few, (risk-most c.risk_at-risk.ensures).count)
