@@ -1,5 +1,5 @@
-//! Links target/staticlib/libretro_c.a, which `rt staticlib retro_c` writes, and the peers of the
-//! benchmark, which are compiled here.
+//! Links crates/retro_c/out/libretro_c.a, which `rt lib` writes in crates/retro_c, and the peers of
+//! the benchmark, which are compiled here.
 
 use std::env;
 use std::fs;
@@ -16,12 +16,12 @@ fn main() {
 
 /// Links the exported calls.
 fn link_library(tests: &Path) {
-    let folder = tests.join("../target/staticlib");
+    let folder = tests.join("../crates/retro_c/out");
     let archive = folder.join("libretro_c.a");
     println!("cargo:rerun-if-changed={}", archive.display());
     assert!(
         archive.is_file(),
-        "{} is missing: run `rt staticlib retro_c` in the repository's root first",
+        "{} is missing: run `rt lib` in crates/retro_c first",
         archive.display()
     );
     println!("cargo:rustc-link-search=native={}", folder.display());

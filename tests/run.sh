@@ -1,8 +1,9 @@
 #!/usr/bin/env bash
 # Everything that is tested beside the proofs: the exported calls against the second rater, the
 # program retro, the example files, the programs in C, the benchmark's peers against the second
-# rater, and that the gate's own checks can fail. It needs target/bin/retro, which rt ci and rt check
-# leave there; the archive is made here. Any failure exits non-zero, a missing compiler or ar too.
+# rater, and that the gate's own checks can fail. The archive crates/retro_c/out/libretro_c.a and the
+# program crates/retro/out/retro are proved and built here, or with --built taken as they stand there,
+# as the gate has made them. Any failure exits non-zero, a missing compiler or ar too.
 set -euo pipefail
 cd "$(dirname "$0")/.."
 
@@ -17,7 +18,10 @@ for compiler in cargo gcc g++ ar; do
 done
 
 .ci/test-checks
-rt staticlib retro_c
+if [ "${1-}" != --built ]; then
+    (cd crates/retro_c && rt lib)
+    (cd crates/retro && rt run </dev/null)
+fi
 cargo build --offline --release
 cargo test --offline --release
 tests/c/run.sh

@@ -1,5 +1,5 @@
 #!/usr/bin/env bash
-# Builds the programs in C against target/staticlib/libretro_c.a and runs them: layout, what retro.h
+# Builds the programs in C against crates/retro_c/out/libretro_c.a and runs them: layout, what retro.h
 # promises; round_trip, Write and Read of the four-risk group in either edition; billing, guaranteed,
 # charges and plan, which are held to tests/c/*.expected, whose figures are the second rater's, for
 # charges those of tests/src/charges_1965.rs, and for plan those of tests/src/plans.rs. Any failure
@@ -8,9 +8,9 @@ set -euo pipefail
 export LC_ALL=C
 cd "$(dirname "$0")/../.."
 
-archive=target/staticlib/libretro_c.a
+archive=crates/retro_c/out/libretro_c.a
 built=cargo-target/c
-[ -f "$archive" ] || { echo "$archive is missing: run 'rt staticlib retro_c' first" >&2; exit 1; }
+[ -f "$archive" ] || { echo "$archive is missing: run 'rt lib' in crates/retro_c first" >&2; exit 1; }
 for compiler in gcc g++; do
     command -v "$compiler" >/dev/null || { echo "$compiler is not installed" >&2; exit 1; }
 done

@@ -1,6 +1,6 @@
 //! What is tested beside the proofs: the exported calls from outside, held to a second rater.
 //!
-//! - `calls`: the seven exported calls of target/staticlib/libretro_c.a.
+//! - `calls`: the seven exported calls of crates/retro_c/out/libretro_c.a.
 //! - `second_rater`: the second rater, written from documents 01 and 02 alone.
 //! - `charges_1965`: the charges of the 1965 table, from document 02 and source document 003 alone.
 //! - `plans`: plans sold on premiums, from documents 01 and 02 alone.
@@ -51,10 +51,10 @@ pub fn refused_example(question: u32) -> PathBuf {
 
 /// The program `retro`, which is built before the tests run.
 pub fn program() -> PathBuf {
-    let program = repository().join("target/bin/retro");
+    let program = repository().join("crates/retro/out/retro");
     assert!(
         program.is_file(),
-        "{} is missing: run `rt check retro` in the repository's root first",
+        "{} is missing: run `rt run` in crates/retro first",
         program.display()
     );
     program

@@ -1,6 +1,6 @@
-//! The program target/bin/retro where an input cannot be read, output cannot be written, or an
-//! argument is given: no refusal, and a line on standard error. An exit status of their own these
-//! have not, since a program in Rattle has none to give (docs/DECISIONS.md).
+//! The program crates/retro/out/retro where an input cannot be read, output cannot be written, or
+//! an argument is given: no refusal, and a line on standard error. The exit statuses are those of
+//! docs/DECISIONS.md.
 
 use retro_tests::{examples, program, repository};
 use std::fs::{self, File, OpenOptions};
@@ -123,7 +123,7 @@ fn a_disk_that_is_full_midway() {
 
 #[test]
 fn a_closed_pipe() {
-    // The system ends the program by its signal, as it does any other.
+    // The program ends as one that the signal ended, by its status as a shell has it.
     let mut child = Command::new("sh")
         .args(["-c", "exec 3<&0; (sleep 0.2; exec \"$0\" <&3)"])
         .arg(program())

@@ -1,5 +1,5 @@
-//! The program target/bin/retro, run on the example files, on generated files and on inputs of any
-//! length.
+//! The program crates/retro/out/retro, run on the example files, on generated files and on inputs of
+//! any length.
 
 use retro_tests::generator::{get, Random, EDITION};
 use retro_tests::samples::largest_of_edition_2;

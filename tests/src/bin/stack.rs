@@ -4,7 +4,7 @@
 //!
 //! Each call runs on the largest file of either edition in a thread whose stack was filled with a
 //! pattern; what it used reaches from the place of the call down to the lowest byte that has
-//! changed. Charge takes no file and is run twice. For the program target/bin/retro it is the least
+//! changed. Charge takes no file and is run twice. For the program crates/retro/out/retro it is the least
 //! limit, in steps of 4 KiB, under which it rates the file.
 
 use retro_tests::calls::{self, Numbers};
@@ -177,7 +177,7 @@ fn least_limit(bytes: &[u8]) -> u32 {
         .step_by(4)
         .find(|&limit| (0..RUNS).all(|_| rates_under(limit)));
     fs::remove_file(&file).expect("the file can be removed");
-    least.expect("target/bin/retro rates the file under 8 MiB")
+    least.expect("crates/retro/out/retro rates the file under 8 MiB")
 }
 
 /// What the calls are given for a group.
