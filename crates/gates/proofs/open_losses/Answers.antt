@@ -1,8 +1,6 @@
 -- The file's own questions, then question 10 of its limited losses.
-use mathlib.Core.Path.{◌≡◌, sym, ap, ◌∙◌}
-use mathlib.Core.List.{List, [], ◌∷◌}
-use Prim.Native.Nat.{ℕ}
-use borrow.Author.Rules.{rules}
+use mathlib.Core.Path.{sym, ap, ◌∙◌}
+use mathlib.Core.List.{[], ◌∷◌}
 use Rattle.plan.specs.Losses.{losses_in}
 use Rattle.plan.specs.Questions.{Verdict, first_no, or_else, file_questions, question10}
 use Rattle.plan.proofs.Questions.{after-gate}

@@ -1,5 +1,5 @@
 -- Questions 1 to 10, then those of the balance, over the file's own header and losses.
-use Rattle.std.proofs.Common.{◌≡◌, sym, ap, ◌∙◌, List, ℕ}
+use Rattle.std.proofs.Common.{◌≡◌, sym, ap, ◌∙◌}
 use Rattle.plan.specs.Header.{header_of}
 use Rattle.plan.specs.Losses.{losses_in}
 use Rattle.plan.specs.Premium.{terms_of}

@@ -1,6 +1,6 @@
 -- A turn takes the word from the place on, and adds both claims that are on its front; an odd claim behind the pairs is added from a
 -- word of its own. Then the last accident ends.
-use Rattle.std.proofs.Common.{◌≡◌, refl, sym, ◌∙◌, subst, ℕ, ◌+◌, ◌-◌, ◌*◌, ◌/◌, ◌≤◌, ◌<◌, arith, lit≤, List}
+use Rattle.std.proofs.Common.{◌≡◌, sym, ◌∙◌, subst, ℕ, ◌+◌, ◌*◌, ◌/◌, ◌≤◌, ◌<◌, arith, lit≤, List}
 use Rattle.plan.specs.Sizes.{most_claims, most_risk_losses}
 use Rattle.plan.specs.Claim.{past_claims}
 use Rattle.plan.proofs.Claims.{past-claims-by}
@@ -9,7 +9,7 @@ use Rattle.accidents.specs.declared.AccidentSums.{AccidentSums}
 use Rattle.plan.specs.Losses.{limited_to}
 use Rattle.claims.proofs.Reach.{front-reach}
 use Rattle.claims.proofs.Limit.{most-le}
-use Rattle.joined.proofs.Joining.{Joining, joining-starts, accident-room, pair-room, all-limited, joining-more, pair-more, double-width, front-here, front-behind}
+use Rattle.joined.proofs.Joining.{Joining, accident-room, pair-room, all-limited, joining-more, pair-more, double-width, front-here, front-behind}
 use Rattle.joined.proofs.joined_claims.Goals as goal
 
 -- ---- a pair

@@ -1,19 +1,9 @@
 -- The invariant: the sums so far are those of the first 2 × i claims, and the place is where they end. The measure is the pairs
 -- to come. A turn takes the word from there on, and adds both claims that are on its front.
-use mathlib.Core.Path.{◌≡◌, refl, sym, ◌∙◌, subst}
-use Prim.Native.Nat.{ℕ, ◌+◌, ◌-◌, ◌*◌, ◌/◌, ◌≤◌, ◌<◌}
-use native.Mathlib.Omega.{arith}
-use borrow.Author.Rules.{rules}
-use lib.Dec.{lit≤}
-use Rattle.plan.specs.Sizes.{most_claims, most_risk_losses}
+use mathlib.Core.Path.{◌≡◌}
+use Prim.Native.Nat.{◌-◌, ◌*◌, ◌≤◌}
 use Rattle.plan.specs.Claim.{past_claims}
-use Rattle.plan.proofs.Claims.{past-claims-by}
-use Rattle.accidents.specs.Accidents.{AccidentRoom}
-use Rattle.accidents.specs.declared.AccidentSums.{AccidentSums}
-use Rattle.claims.proofs.Reach.{front-reach}
-use Rattle.claims.proofs.Limit.{most-le}
-use Rattle.joined.proofs.Joining.{Joining, joining-starts, accident-room, pair-room, all-limited, joining-more, pair-more}
-use Rattle.joined.proofs.Joining.{double-width, front-here, front-behind}
+use Rattle.joined.proofs.Joining.{Joining}
 use Rattle.joined.proofs.joined_claims.Given as goal
 
 abbrev pub invariant-loop-i : goal.invariant-loop-i

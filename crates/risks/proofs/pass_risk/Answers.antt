@@ -1,7 +1,6 @@
 -- The risk is the one where the first k end, and each sum takes its part of it.
 use mathlib.Core.Path.{refl}
 use native.Mathlib.Omega.{arith}
-use borrow.Author.Rules.{rules}
 use Rattle.risks.proofs.Passing.{risk-most, place-most, claims-most, total_most, limited_most, risk-passed}
 use Rattle.risks.proofs.pass_risk.Goals as goal
 

@@ -1,10 +1,5 @@
 -- The count, the bit of the first claim, and that many claims after the count.
-use mathlib.Core.Path.{ap₂, ◌∙◌}
-use Prim.Native.Nat.{ℕ}
 use native.Mathlib.Omega.{arith}
-use borrow.Author.Rules.{rules}
-use Rattle.plan.specs.Claim.{claims_from, past_claims}
-use Rattle.plan.specs.Losses.{total_of, limited_of}
 use Rattle.plan.proofs.Risks.{count-le, first-claim}
 use Rattle.risks.proofs.risk_at.Goals as goal
 

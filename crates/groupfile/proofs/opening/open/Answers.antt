@@ -4,7 +4,7 @@ use Rattle.std.proofs.Common.{sym, ap, ◌∙◌, subst₂, ℕ, arith}
 use Rattle.plan.specs.Header as plan
 use Rattle.plan.proofs.FileSizes.{risks-le}
 use Rattle.plan.proofs.Losses.{length-losses}
-use Rattle.risks.proofs.RunningSums.{total-is-all, limited-is-all, next-is-end}
+use Rattle.risks.proofs.RunningSums.{total-is-all, limited-is-all}
 use Rattle.walking.specs.Walks.{WalkIs}
 use Rattle.groupfile.proofs.opening.open.Goals as goal
 
