@@ -1,4 +1,5 @@
--- Risks put one after another: the risk at i is the first of those left, and its claims are the first of the claims left.
+-- Risks put one after another: the risk at i is the first of those left, and its claims are the first of
+-- the claims left.
 use mathlib.Core.Path.{◌≡◌, refl, sym, ap, ap₂, ◌∙◌}
 use mathlib.Core.List.{List, ◌∷◌, ◌++◌}
 use Prim.Native.Nat.{ℕ, ◌+◌, ◌-◌, ◌≤◌, ◌<◌}
@@ -35,11 +36,13 @@ module _ {s : List ℕ} {at edition : ℕ} {counts claims joined t : List ℕ} {
 
   counted : (xs : List ℕ) → length xs ≡ length claims → length (own counts xs i first) ≡ get_or counts i 0
   counted xs e =
-      length-take-le (first + get_or counts i 0 - first) (drop first xs) (omega (arith, there, length-drop first xs, e))
+      length-take-le (first + get_or counts i 0 - first) (drop first xs)
+      (omega (arith, there, length-drop first xs, e))
       ∙ omega arith
 
   -- and as many bits
-  pub alike : length joined ≡ length claims → length (own counts joined i first) ≡ length (own counts claims i first)
+  pub alike : length joined ≡ length claims
+      → length (own counts joined i first) ≡ length (own counts claims i first)
   alike e = counted joined e ∙ sym (counted claims refl)
 
   -- the risk at i is the first of the rest
@@ -63,6 +66,7 @@ module _ {s : List ℕ} {at edition : ℕ} {counts claims joined t : List ℕ} {
       (sym (counted claims refl)) its
       ∙ ap (λ (l : List Claim). slots_of_risk edition js ds ++ slots_of_risks edition ks l) (drop-drop k first cs))
 
-  pub goes_on : {u : List ℕ} {r : ℕ} → Wrote t q (slots_of_risk edition (own counts joined i first) (own counts claims i first)) u r
+  pub goes_on : {u : List ℕ} {r : ℕ}
+      → Wrote t q (slots_of_risk edition (own counts joined i first) (own counts claims i first)) u r
       → Risks s at edition counts claims joined u r (i + 1) (first + get_or counts i 0)
   goes_on x = record { within = omega arith; enough = there; putting = putting-run _ _ next x }

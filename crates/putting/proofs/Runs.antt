@@ -1,4 +1,5 @@
--- The header's two runs and the risks are the file's fields, one run after another, and the fill ends the last byte.
+-- The header's two runs and the risks are the file's fields, one run after another, and the fill ends the
+-- last byte.
 use mathlib.Core.Path.{◌≡◌, refl, ◌∙◌}
 use mathlib.Core.List.{List, ◌++◌}
 use Prim.Native.Nat.{ℕ, ◌-◌, ◌*◌, ◌≤◌, ◌<◌}

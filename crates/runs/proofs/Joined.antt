@@ -1,5 +1,5 @@
--- A run of claims with bits put by pairs: each claim is one number of 21 bits, and these are put as the crate `pairs` says. Between
--- two pairs fewer than eight bits are held.
+-- A run of claims with bits put by pairs: each claim is one number of 21 bits, and these are put as the
+-- crate `pairs` says. Between two pairs fewer than eight bits are held.
 use mathlib.Core.Path.{◌≡◌, sym, ap, ap₂, ◌∙◌, subst}
 use mathlib.Core.List.{List, [], ◌∷◌}
 use Prim.Native.Nat.{ℕ, ◌+◌, ◌*◌, ◌/◌, ◌%◌, ◌^◌, ◌≤◌, ◌<◌}
@@ -19,8 +19,8 @@ pub record Joined (s : List ℕ) (at : ℕ) (js ds t : List ℕ) (bits byte held
   pub few : bits < 8
   pub pairs : Pairs 21 s at (values js ds) t bits byte held i
 
-module _ {s : List ℕ} {at : ℕ} {js ds t : List ℕ} {bits byte held i : ℕ} (g : Joined s at js ds t bits byte held i)
-    (e : length js ≡ length ds) where
+module _ {s : List ℕ} {at : ℕ} {js ds t : List ℕ} {bits byte held i : ℕ}
+    (g : Joined s at js ds t bits byte held i) (e : length js ≡ length ds) where
   -- ---- with two claims left at least
 
   module _ (h : i + 1 < length ds) where
@@ -43,19 +43,22 @@ module _ {s : List ℕ} {at : ℕ} {js ds t : List ℕ} {bits byte held i : ℕ}
 
       -- the word
       module _ {word : ℕ} (is : word ≡ (held * 2 ^ 21 + x) * 2 ^ 21 + y) where
-        as_values : word ≡ (held * 2 ^ 21 + get_or (values js ds) i 0) * 2 ^ 21 + get_or (values js ds) (i + 1) 0
+        as_values : word
+            ≡ (held * 2 ^ 21 + get_or (values js ds) i 0) * 2 ^ 21 + get_or (values js ds) (i + 1) 0
         as_values = is ∙ ap₂ (λ (a b : ℕ). (held * 2 ^ 21 + a) * 2 ^ 21 + b) one two
 
         pub five : FiveBytes t (8 * byte) (word / 2 ^ (bits + 2))
         five = five-bytes g.pairs more (bits + 2) as_values (omega arith)
 
         pub after-five : {u : List ℕ} {next : ℕ} → Put t (8 * byte) 40 (word / 2 ^ (bits + 2)) u
-            → next ≡ word / 2 ^ 0 % 2 ^ (bits + 2) → Pairs 21 s at (values js ds) u (bits + 2) (byte + 5) next (i + 2)
+            → next ≡ word / 2 ^ 0 % 2 ^ (bits + 2)
+            → Pairs 21 s at (values js ds) u (bits + 2) (byte + 5) next (i + 2)
         after-five = pairs-more g.pairs more (bits + 2) as_values (omega arith)
 
   -- ---- with fewer than two, once the bits held are put
 
-  module _ (h : length ds ≤ i + 1) {u : List ℕ} {q : ℕ} (p : (q ≡ 8 * byte + bits) × Put t (8 * byte) bits held u) where
+  module _ (h : length ds ≤ i + 1) {u : List ℕ} {q : ℕ}
+      (p : (q ≡ 8 * byte + bits) × Put t (8 * byte) bits held u) where
     fewer : length (values js ds) ≤ i + 1
     fewer = omega (arith, h, length-values js ds e)
 

@@ -1,5 +1,5 @@
--- The run's first byte may be begun; the bits held then are its own, and are put as they were. A turn puts a pair; the bits held and
--- a claim that has no other are put at the end.
+-- The run's first byte may be begun; the bits held then are its own, and are put as they were. A turn puts
+-- a pair; the bits held and a claim that has no other are put at the end.
 use Rattle.std.proofs.Common.{arith}
 use Rattle.bits.proofs.Runs.{putting-more, putting-ends}
 use Rattle.pairs.proofs.ByPairs.{pairs_start, pair_fits, pairs-more, last-left, none_left}
@@ -13,8 +13,8 @@ pair_after-word-requires-clause-held_bound c = pair_fits c.loop-i.invariant c.lo
 
 pub loop-i-preserved : goal.loop-i-preserved
 loop-i-preserved c =
-    pairs-more c.loop-i.invariant c.loop-i-test.true _ c.pair_after-word.ensures (omega arith) c.put_five.ensures.put
-    c.extract-held.ensures
+    pairs-more c.loop-i.invariant c.loop-i-test.true _ c.pair_after-word.ensures (omega arith)
+    c.put_five.ensures.put c.extract-held.ensures
 
 pub returns-then-i-claims : goal.returns-then-i-claims
 returns-then-i-claims c =

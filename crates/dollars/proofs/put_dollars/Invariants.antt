@@ -1,5 +1,5 @@
--- The invariant: of the claims, those from i on are left to be put, after the bits that are held, fewer than eight. The measure is
--- how many.
+-- The invariant: of the claims, those from i on are left to be put, after the bits that are held, fewer
+-- than eight. The measure is how many.
 use Rattle.std.proofs.Common.{length, ◌-◌}
 use Rattle.plan.specs.Claim.{dollars_width}
 use Rattle.pairs.proofs.ByPairs.{Pairs}

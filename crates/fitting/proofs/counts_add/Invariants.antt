@@ -1,5 +1,5 @@
--- The invariant: the total so far and the counts from i on add to what all counts add to, and fit where all do. The measure is the
--- counts left.
+-- The invariant: the total so far and the counts from i on add to what all counts add to, and fit where all
+-- do. The measure is the counts left.
 use Rattle.std.proofs.Common.{◌≡◌, ◌&&◌, ◌≤◌, ◌+◌, ◌*◌, ◌-◌, eqb, length, drop}
 use Rattle.plan.specs.Arithmetic.{sum}
 use Rattle.plan.specs.Sizes.{most_claims}

@@ -1,4 +1,5 @@
--- The invariant: the greatest bit before i fits, and those from i on fit, where all do. The measure is the bits left.
+-- The invariant: the greatest bit before i fits, and those from i on fit, where all do. The measure is the
+-- bits left.
 use Rattle.std.proofs.Common.{◌≡◌, ◌&&◌, ◌≤◌, length, drop, ◌-◌}
 use Rattle.plan.specs.Field.{fits, all_fit}
 use Rattle.plan.specs.Claim.{joined_width}

@@ -1,5 +1,5 @@
--- The invariant: the risks before i were found to open, and those from i on, with the bits from `first` on, do, where all do,
--- whatever the dollars. The measure is the risks left.
+-- The invariant: the risks before i were found to open, and those from i on, with the bits from `first` on,
+-- do, where all do, whatever the dollars. The measure is the risks left.
 use Rattle.std.proofs.Common.{length, ◌-◌}
 use Rattle.fitting.proofs.Opening.{Opening}
 use Rattle.fitting.proofs.risks_open.Given as goal

@@ -1,5 +1,6 @@
--- The run's first byte may be begun; the bits held then are its own, and are put as they were. A turn puts a pair, and a byte where
--- the bits held have one; those held and a claim that has no other are put at the end.
+-- The run's first byte may be begun; the bits held then are its own, and are put as they were. A turn puts
+-- a pair, and a byte where the bits held have one; those held and a claim that has no other are put at the
+-- end.
 use Prim.Native.Nat.{◌+◌, ◌-◌}
 use native.Mathlib.Omega.{arith}
 use lib.Dec.{lit≤}
@@ -34,7 +35,8 @@ as_one-requires c = both-fit 2 _ _ _ c.requires.joined_len (omega arith) c.requi
 
 pub pair_after-word-requires-clause-held_bound : goal.pair_after-word-requires-clause-held_bound
 pair_after-word-requires-clause-held_bound c =
-    pair-fit c.loop-i.invariant c.requires.joined_len c.loop-i-test.true c.as_one-one.ensures c.as_one-two.ensures
+    pair-fit c.loop-i.invariant c.requires.joined_len c.loop-i-test.true c.as_one-one.ensures
+    c.as_one-two.ensures
 
 pub put_five-requires : goal.put_five-requires
 put_five-requires c =
@@ -56,15 +58,15 @@ loop-i-preserved c =
 pub put-requires : goal.put-requires
 put-requires c =
     let pair =
-    after-five c.loop-i.invariant c.requires.joined_len c.loop-i-test.true c.as_one-one.ensures c.as_one-two.ensures
-    c.pair_after-word.ensures c.put_five.ensures.put c.extract-held.ensures in
+    after-five c.loop-i.invariant c.requires.joined_len c.loop-i-test.true c.as_one-one.ensures
+    c.as_one-two.ensures c.pair_after-word.ensures c.put_five.ensures.put c.extract-held.ensures in
     byte-room pair (c.loop-i.bits + 2 - 8) (omega arith)
 
 pub loop-i-preserved-then-bits-ge-BYTE_WIDTH : goal.loop-i-preserved-then-bits-ge-BYTE_WIDTH
 loop-i-preserved-then-bits-ge-BYTE_WIDTH c =
     let pair =
-    after-five c.loop-i.invariant c.requires.joined_len c.loop-i-test.true c.as_one-one.ensures c.as_one-two.ensures
-    c.pair_after-word.ensures c.put_five.ensures.put c.extract-held.ensures in
+    after-five c.loop-i.invariant c.requires.joined_len c.loop-i-test.true c.as_one-one.ensures
+    c.as_one-two.ensures c.pair_after-word.ensures c.put_five.ensures.put c.extract-held.ensures in
     record {
       within = omega arith;
       few = omega (arith, c.loop-i.invariant.few);

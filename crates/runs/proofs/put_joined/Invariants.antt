@@ -1,5 +1,5 @@
--- The invariant: of the claims, each as one number, those from i on are left to be put, after the bits that are held, fewer than
--- eight. The measure is how many.
+-- The invariant: of the claims, each as one number, those from i on are left to be put, after the bits that
+-- are held, fewer than eight. The measure is how many.
 use Rattle.std.proofs.Common.{length, ◌-◌}
 use Rattle.runs.proofs.Joined.{Joined}
 use Rattle.runs.proofs.put_joined.Given as goal
