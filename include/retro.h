@@ -17,8 +17,8 @@
  *
  * The header is C11 and C++11; the library is for x86-64 Linux and needs the C library alone.
  *
- *     rt staticlib retro_c
- *     cc -Iinclude billing.c target/staticlib/libretro_c.a -o billing
+ *     (cd crates/retro_c && rt lib)
+ *     cc -Iinclude billing.c crates/retro_c/out/libretro_c.a -o billing
  *
  * Answers
  *
