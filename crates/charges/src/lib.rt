@@ -19,14 +19,14 @@ const LAST_COLUMN: u32 = 52;
 const LAST_RATIO: u32 = 500;
 
 // The charge, and its whole thousandths.
-#[derive(Drop)]
+#[derive(Clone, Copy)]
 pub struct TableCharge {
     pub charge: f64,
     pub thousandths: u32,
 }
 
 // What the call gives, or the number of the first question that failed.
-#[derive(Drop)]
+#[derive(Clone, Copy)]
 pub enum Charged {
     Given(TableCharge),
     Refused(u32),

@@ -2,12 +2,12 @@
 -- of a file has that list, and each A stands in its entry. Assumes nothing.
 use mathlib.Core.Path.{◌≡◌, refl, sym, ap, ap₂, ◌∙◌, subst}
 use mathlib.Core.List.{List, [], ◌∷◌, ◌++◌, map, map-append}
-use Prim.Native.Nat.{ℕ, zero, suc, ◌≤◌, ◌<◌}
+use Prim.Native.Nat.{ℕ, ◌≤◌, ◌<◌}
 use native.Mathlib.Omega.{arith}
 use lib.ListN.{length, take, set, replicate, length-map, length-replicate}
 use Rattle.plan.specs.Sizes.{most_risks}
 use Rattle.plan.specs.Header as plan
-use Rattle.plan.specs.Losses.{Losses, SL, SA}
+use Rattle.plan.specs.Losses.{Losses}
 use Rattle.plan.specs.Bounds.{GroupBounds}
 use Rattle.plan.proofs.Filled.{first-filled, length-filled, filled_more}
 use Rattle.group.specs.Values.{header_is, paired, losses_is, first_of, LossesAre, GroupIs}

@@ -134,6 +134,7 @@ pub fn header_of(file: &[u8]) -> FileHeader
 }
 
 // Whether x is from low to high.
+#[tactic(auto, using(std::proofs::lemmas::Bool::Decides::nat_tests), unfolding(crate::specs::Header::between))]
 fn in_range(low: u32, x: u32, high: u32) -> bool
     ensures { result ≡ between low x high }
 {
@@ -148,6 +149,7 @@ pub fn known_edition(edition: u32) -> bool
 }
 
 // Questions 3 to 6, 18 and 7 of header values and the number of risks.
+#[tactic(auto, using(std::proofs::lemmas::Bool::Decides::nat_tests), unfolding(crate::specs::Header::between))]
 pub fn header_verdict(h: Header, risks: usize) -> Verdict
     ensures { verdict_is result ≡ first_no (header_questions (header_is h) risks) }
 {

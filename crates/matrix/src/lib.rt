@@ -45,7 +45,7 @@ const MATRIX: [i32; 119] = [
 ];
 
 // The coefficients of a column.
-#[derive(Drop)]
+#[derive(Clone, Copy)]
 pub struct Row {
     pub b2: f64,
     pub b3: f64,

@@ -1,10 +1,9 @@
 -- Laws of one bill, by the terms of its group: as a quotient of naturals, within half a dollar of the unrounded premium, its
 -- numerator with half the divisor below 2 ^ 63 and itself below 2 ^ 31. Assumes nothing.
 use mathlib.Core.Path.{◌≡◌, sym, ap, ◌∙◌, subst}
-use mathlib.Core.List.{List}
 use Prim.Native.Nat.{ℕ, ◌+◌, ◌*◌, ◌/◌, ◌^◌, ◌≤◌, ◌<◌}
 use native.Mathlib.Omega.{arith}
-use native.Mathlib.Nat.{mul-le-mul, mul-le-mul_left, mul-le-mul_right, le_trans}
+use native.Mathlib.Nat.{mul-le-mul, mul-le-mul_left, mul-le-mul_right}
 use lib.IntN.{ℤ, pos, nat_abs}
 use Rattle.plan.specs.Sizes.{most_dollars, most_shared, premium_scale, half_dollar}
 use Rattle.plan.specs.Ratable.{clamp}

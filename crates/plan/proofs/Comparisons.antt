@@ -22,7 +22,7 @@ use Rattle.plan.specs.Bounds.{GroupBounds}
 use Rattle.plan.specs.Demand3.{numbers_in}
 use Rattle.plan.specs.Questions.{passed, first_no, rating_questions, rate_questions, rate_enough, question13}
 use Rattle.plan.specs.Calls.{Answer, given, filled, buffer_after, Rated, rated_of, rate, premium_bytes}
-use Rattle.plan.specs.Discount.{Layer, discount, guaranteed_cost, rates_pass}
+use Rattle.plan.specs.Discount.{Layer, guaranteed_cost, rates_pass}
 use Rattle.plan.specs.Comparison.{differences_of, compare_enough, schedule_questions, compare_questions}
 use Rattle.plan.specs.Comparison.{Comparison, comparison_of, compare, NumbersGiven, Sized, Beside}
 use Rattle.plan.proofs.Tests.{both}

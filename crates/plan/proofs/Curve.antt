@@ -7,7 +7,7 @@ use Prim.Native.Nat.{ℕ, ◌+◌, ◌*◌, ◌<◌}
 use native.Mathlib.Omega.{arith}
 use native.Mathlib.Nat.{mul-pos}
 use lib.ListN.{length}
-use Rattle.plan.specs.Arithmetic.{sum_of, above, below, nearest}
+use Rattle.plan.specs.Arithmetic.{above, below, nearest}
 use Rattle.plan.specs.Losses.{Losses, SA}
 use Rattle.plan.specs.Table.{charge_sum, savings_sum, charge, savings}
 use Rattle.plan.proofs.Sums.{sum-ext, sum-add, sum-mul, sum-const}

@@ -3,10 +3,9 @@
 use mathlib.Core.Path.{◌≡◌, refl, sym, ap, ◌∙◌, subst}
 use mathlib.Core.List.{List, [], ◌∷◌, ◌++◌, map}
 use mathlib.Core.Logic.{◌≢◌}
-use Prim.Native.Nat.{ℕ, ◌+◌, ◌*◌, ◌^◌, ◌≤◌, ◌<◌}
+use Prim.Native.Nat.{ℕ, ◌+◌, ◌*◌, ◌^◌, ◌<◌}
 use native.Mathlib.Omega.{arith}
 use native.Mathlib.Nat.{lt_trans}
-use borrow.Author.Tests.{leb-true}
 use lib.Dec.{lit<}
 use lib.IntN.{ℤ, pos, ◌+ℤ◌, nat_abs}
 use lib.Signed.{◌≤ℤ◌}
@@ -17,11 +16,11 @@ use Rattle.plan.specs.Header.{Header, header_of, risk_count}
 use Rattle.plan.specs.Losses.{Losses, losses_in, SL}
 use Rattle.plan.specs.Ratable.{ratable}
 use Rattle.plan.specs.Basic.{basic_premium, excess_charge}
-use Rattle.plan.specs.Premium.{Terms, terms_of, billed_premium, billed_premiums}
+use Rattle.plan.specs.Premium.{terms_of, billed_premium, billed_premiums}
 use Rattle.plan.specs.Demand3.{Demand3, numbers_in, total_with, taxed_expenses_and_losses}
-use Rattle.plan.specs.Questions.{passed, first_no, rating_questions, rate_questions, rate_enough, question13}
-use Rattle.plan.specs.Bounds.{GroupBounds, TermsBounds}
-use Rattle.plan.specs.Calls.{Answer, given, refused, answer, filled, buffer_after, Rated, rated_of, rate, premium_bytes}
+use Rattle.plan.specs.Questions.{first_no, rating_questions, rate_questions, rate_enough, question13}
+use Rattle.plan.specs.Bounds.{GroupBounds}
+use Rattle.plan.specs.Calls.{Answer, given, filled, buffer_after, Rated, rated_of, rate, premium_bytes}
 use Rattle.plan.proofs.Sums.{sum-map, sum-mul, sum_z-pos}
 use Rattle.plan.proofs.Differences.{pos-≤}
 use Rattle.plan.proofs.Fields.{fields-same, bit-append}

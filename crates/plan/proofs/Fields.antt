@@ -2,10 +2,10 @@
 -- so each law is one about `number`, by induction on the width, and holds for any source of bits. The byte law says that the
 -- bits of a byte are its binary digits: dividing by 2 ^ (8 − j) leaves the first j. Assumes nothing.
 use mathlib.Core.Path.{◌≡◌, refl, sym, ap, ap₂, ◌∙◌}
-use mathlib.Core.List.{List, [], ◌∷◌, ◌++◌}
+use mathlib.Core.List.{List, ◌∷◌, ◌++◌}
 use Prim.Native.Nat.{ℕ, zero, suc, ◌+◌, ◌-◌, ◌*◌, ◌/◌, ◌%◌, ◌^◌, ◌≤◌, ◌<◌}
-use native.Mathlib.Nat.{zero-add, add-zero, add-suc, add_assoc, mul_assoc, mod-lt, mod-eq_of_lt, div-eq_of_lt, div-one, pow-suc, zero-lt-suc, lt_of_lt_of_le}
-use native.Mathlib.Decide.{ℕ_discrete, dec_lt}
+use native.Mathlib.Nat.{zero-add, add-zero, add-suc, add_assoc, mul_assoc, mod-lt, div-eq_of_lt, div-one, pow-suc, zero-lt-suc, lt_of_lt_of_le}
+use native.Mathlib.Decide.{ℕ_discrete}
 use native.Mathlib.Omega.{arith}
 use lib.ListN.{length, get_or, get_or-eq_default, get_or-append}
 use lib.Seq.{ext_get_or}

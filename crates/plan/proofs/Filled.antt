@@ -1,11 +1,11 @@
 -- A lent buffer whose first entries are filled, as a loop fills it: one store makes it filled with one entry more, a run of
 -- stores with several. Assumes nothing.
 use mathlib.Core.Path.{◌≡◌, refl, sym, ap, ap₂, ◌∙◌}
-use mathlib.Core.List.{List, [], ◌∷◌, ◌++◌, append_assoc}
+use mathlib.Core.List.{List, [], ◌∷◌, ◌++◌}
 use Prim.Native.Nat.{ℕ, suc, ◌+◌, ◌≤◌, ◌<◌}
 use native.Mathlib.Omega.{arith}
 use lib.ListN.{length, take, drop, set, length-append, length-drop}
-use lib.Seq.{drop-cons, set_at, append_snoc, take_at, drop_at, drop-drop, take-length, paste, take-append_seam}
+use lib.Seq.{drop-cons, set_at, append_snoc, drop_at, drop-drop, take-length, paste, take-append_seam}
 use Rattle.plan.specs.Calls.{filled}
 
 module _ {A : Type 0} where

@@ -1,14 +1,14 @@
 -- A file of edition 1 is what it was before there was another: its bits are 0, so each claim is an accident of its own, A is the sum of
 -- what the limit leaves of each claim, and question 19 refuses none. Assumes nothing.
-use mathlib.Core.Path.{◌≡◌, refl, ap, ap₂, ◌∙◌}
+use mathlib.Core.Path.{◌≡◌, refl, ap}
 use mathlib.Core.Bool.{true}
-use mathlib.Core.List.{List, [], ◌∷◌, ◌++◌, map, map-append}
-use Prim.Native.Nat.{ℕ, zero, suc, ◌+◌}
+use mathlib.Core.List.{List, [], ◌∷◌, map}
+use Prim.Native.Nat.{ℕ, zero, suc}
 use native.Mathlib.Omega.{arith}
 use borrow.Author.Tests.{eq-eqb}
-use Rattle.plan.specs.Arithmetic.{sum, sum_of}
+use Rattle.plan.specs.Arithmetic.{sum_of}
 use Rattle.plan.specs.Header.{edition_of, header_bits, risk_count}
-use Rattle.plan.specs.Claim.{Claim, claim, joined, dollars, joined_width, claim_at, past_claim, claims_from}
+use Rattle.plan.specs.Claim.{Claim, claim, joined, dollars, joined_width, past_claim, claims_from}
 use Rattle.plan.specs.Risk.{count_at, first_claim, claims_at, past_risk, risks_from, all_claims}
 use Rattle.plan.specs.File.{claims_in, risks_of}
 use Rattle.plan.specs.Accidents.{accidents_from, accidents_of, opens, all_open}

@@ -1,7 +1,7 @@
 -- Sizes of steps 2 to 5, of a group within its bounds: a mark's dollars by the mark's own bound, SX by SA, SS by LH for each
 -- risk, and M + Q by 1,000 × (n × e + SL), since what M adds for the maximum is never more than SA. Assumes nothing.
 use mathlib.Core.Path.{◌≡◌, sym, ap, subst}
-use mathlib.Core.Bool.{true, false}
+use mathlib.Core.Bool.{true}
 use mathlib.Core.List.{List}
 use Prim.Native.Nat.{ℕ, zero, suc, ◌+◌, ◌*◌, ◌-◌, ◌^◌, ◌≤◌, ◌<◌}
 use native.Mathlib.Omega.{arith}

@@ -1,10 +1,10 @@
 -- Laws of the nearest whole number. (2a + b) ÷ 2b is a ÷ b to the nearest, since 2b times it is at most b from 2a; a multiple
 -- of the divisor passes through it; where the divisor is even it is the quotient after half the divisor is added. Assumes nothing.
-use mathlib.Core.Path.{◌≡◌, sym, ap, ◌∙◌}
+use mathlib.Core.Path.{◌≡◌, ap, ◌∙◌}
 use mathlib.Core.List.{List, [], ◌∷◌}
 use Prim.Native.Nat.{ℕ, ◌+◌, ◌*◌, ◌/◌, ◌%◌, ◌≤◌, ◌<◌}
 use native.Mathlib.Omega.{arith}
-use native.Mathlib.Nat.{div-add-mod, mod-lt, add-mul-div_left, mul-div-mul_left, mul-pos, lt_of_mul-lt-mul_left, lt_of_le_of_lt}
+use native.Mathlib.Nat.{div-add-mod, mod-lt, add-mul-div_left, mul-div-mul_left, lt_of_mul-lt-mul_left, lt_of_le_of_lt}
 use lib.ListN.{length}
 use Rattle.plan.specs.Arithmetic.{sum_of, nearest}
 use Rattle.plan.specs.Premium.{bill_rounding}

@@ -5,7 +5,7 @@ use Prim.Native.Nat.{ℕ, ◌+◌, ◌*◌, ◌≤◌}
 use native.Mathlib.Omega.{arith}
 use lib.ListN.{length}
 use lib.IntN.{ℤ, pos, ◌+ℤ◌}
-use Rattle.plan.specs.Arithmetic.{sum_of, sum_z, sum}
+use Rattle.plan.specs.Arithmetic.{sum_of, sum_z}
 
 module _ {A : Type 0} where
   pub sum-add : (f g : A → ℕ) (l : List A) → sum_of (λ x. f x + g x) l ≡ sum_of f l + sum_of g l

@@ -1,6 +1,5 @@
 -- Sizes of Table's numerators at an entry ratio of at most 600: the charge's is at most the divisor, the savings' at most six
 -- times it, and in thousandths, with half the divisor, either stays below 2 ^ 63. Assumes nothing.
-use mathlib.Core.Path.{◌≡◌}
 use mathlib.Core.List.{List}
 use Prim.Native.Nat.{ℕ, ◌+◌, ◌*◌, ◌^◌, ◌≤◌, ◌<◌}
 use native.Mathlib.Omega.{arith}

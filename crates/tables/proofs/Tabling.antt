@@ -12,10 +12,10 @@ use Rattle.plan.specs.Arithmetic.{sum_of, above, below, nearest}
 use Rattle.plan.specs.Sizes.{most_risks, most_group_losses, most_ratio}
 use Rattle.plan.specs.Header.{header_of}
 use Rattle.plan.specs.Losses.{Losses, losses_in, SA}
-use Rattle.plan.specs.Questions.{ask, Verdict, passed, failed, first_no, or_else, loss_questions, question14, table_questions}
+use Rattle.plan.specs.Questions.{ask, Verdict, passed, first_no, or_else, loss_questions, question14}
 use Rattle.plan.specs.Table.{charge_sum, savings_sum, charge, savings}
 use Rattle.plan.specs.Bounds.{GroupBounds}
-use Rattle.plan.specs.Calls.{Answer, answer, Tabled, table}
+use Rattle.plan.specs.Calls.{answer, Tabled, table}
 use Rattle.plan.proofs.Sums.{sum-map}
 use Rattle.plan.proofs.Questions.{after-gate, answered, loss-sound}
 use Rattle.plan.proofs.FileSizes.{group-bounds}

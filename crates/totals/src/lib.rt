@@ -14,7 +14,7 @@ use steps::bill::PREMIUM_SCALE;
 const PART: u64 = 4294967296;
 
 // What the premiums of a plan share: n, c, T, Q, and the maximum and the minimum premium, G and H, in dollars.
-#[derive(Drop)]
+#[derive(Clone, Copy)]
 pub struct PlanTerms {
     pub risks: u32,
     pub conversion: u32,
@@ -25,7 +25,7 @@ pub struct PlanTerms {
 }
 
 // A number in two parts: high × 2^32 + low.
-#[derive(Drop)]
+#[derive(Clone, Copy)]
 pub struct Parts {
     pub high: u64,
     pub low: u64,

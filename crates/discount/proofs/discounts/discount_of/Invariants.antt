@@ -1,4 +1,5 @@
--- Of the rows, i are passed, and the parts that they take are summed. The measure is the rows to come before the last.
+-- Of the rows, i are passed, and the parts that they take are summed. The measure is the rows to come before
+-- the last.
 use Rattle.std.proofs.Common.{◌-◌}
 use Rattle.discount.proofs.Cutting.{Cutting}
 use Rattle.discount.proofs.discounts.discount_of.Given as goal

@@ -33,14 +33,16 @@ basic_of-requires c = basic-bounds c.requires c.marks_of-marks.ensures c.spread_
 
 pub returns-in-Negative : goal.returns-in-Negative
 returns-in-Negative c =
-    let is =
-    basic_after c.requires c.marks_of-marks.ensures c.spread_of-spread.ensures {r = Negative} c.in-Negative.ensures refl in
-    twelve _ _ is
+    let marks = c.marks_of-marks.ensures in
+    let spread = c.spread_of-spread.ensures in
+    twelve _ _ (basic_after c.requires marks spread {r = Negative} c.in-Negative.ensures refl)
 
 pub returns-in-Amount : goal.returns-in-Amount
 returns-in-Amount c =
     let m = c.in-Amount.basic in
+    let marks = c.marks_of-marks.ensures in
+    let spread = c.spread_of-spread.ensures in
     let is : pos m ≡ basic_premium (header_is c.args.h) (losses_is c.args.losses) =
-    basic_after c.requires c.marks_of-marks.ensures c.spread_of-spread.ensures {r = Amount m} c.in-Amount.ensures refl in
-    ap given (terms-are c.requires c.marks_of-marks.ensures is c.excess_of-excess.ensures)
+    basic_after c.requires marks spread {r = Amount m} c.in-Amount.ensures refl in
+    ap given (terms-are c.requires marks is c.excess_of-excess.ensures)
     ∙ terms _ _ (ap non_neg (sym is))

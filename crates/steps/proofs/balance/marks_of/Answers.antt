@@ -10,7 +10,8 @@ use Rattle.group.specs.declared.GroupLosses.{GroupLosses}
 use Rattle.steps.proofs.balance.marks_of.Goals as goal
 
 -- of a group, a mark that its kind makes of x thousandths
-dollars-are : {h : Header} {g : GroupLosses} → GroupIs h g → (m : Mark) (x : ℕ) → mark_is m ≡ mark_of h.mark_kind x
+dollars-are : {h : Header} {g : GroupLosses} → GroupIs h g → (m : Mark) (x : ℕ)
+    → mark_is m ≡ mark_of h.mark_kind x
     → dollars (mark_is m) h.standard_premium g.risks g.limited
     ≡ dollars (mark_of h.mark_kind x) h.standard_premium (length (losses_is g)) (SA (losses_is g))
 dollars-are {h} b m x is = λ i. dollars (is i) h.standard_premium (b.losses.risks i) (b.losses.limited i)
@@ -18,6 +19,10 @@ dollars-are {h} b m x is = λ i. dollars (is i) h.standard_premium (b.losses.ris
 pub returns : goal.returns
 unfolding LG LH
 returns c = record {
-  maximum = c.dollars_of-maximum.ensures ∙ dollars-are c.requires c.mark_of-highest.result _ c.mark_of-highest.ensures;
-  minimum = c.dollars_of-minimum.ensures ∙ dollars-are c.requires c.mark_of-lowest.result _ c.mark_of-lowest.ensures;
+  maximum =
+      c.dollars_of-maximum.ensures
+      ∙ dollars-are c.requires c.mark_of-highest.result _ c.mark_of-highest.ensures;
+  minimum =
+      c.dollars_of-minimum.ensures
+      ∙ dollars-are c.requires c.mark_of-lowest.result _ c.mark_of-lowest.ensures;
 }

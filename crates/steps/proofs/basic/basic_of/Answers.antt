@@ -1,5 +1,5 @@
--- The definition takes c × SL away and adds 1,000 × SL, the code takes (c − 1,000) × SL away: M is the difference of
--- the code's two sums.
+-- The definition takes c × SL away and adds 1,000 × SL, the code takes (c − 1,000) × SL away: M is the
+-- difference of the code's two sums.
 use Rattle.std.proofs.Common.{◌≡◌, refl, sym, ap, ◌∙◌, arith, false, ℕ, ◌+◌, ◌-◌, ◌*◌, ◌<◌}
 use Rattle.std.proofs.Math.Nat.{add-mul}
 use Rattle.std.proofs.Math.IntN.{ℤ, pos, negsuc}

@@ -1,5 +1,5 @@
--- The numerator and half the divisor stay below 2 ^ 63, and the divisor is even, so adding its half before dividing
--- is the billing rule.
+-- The numerator and half the divisor stay below 2 ^ 63, and the divisor is even, so adding its half before
+-- dividing is the billing rule.
 use Rattle.std.proofs.Common.{◌≡◌, refl, arith, ℕ, ◌+◌, ◌*◌, ◌/◌, ◌^◌, ◌≤◌, ◌<◌}
 use Rattle.plan.specs.Sizes.{premium_scale}
 use Rattle.plan.specs.Ratable.{clamp}
@@ -36,10 +36,14 @@ bill : (c : After-ratable_of-k) → Billed c.args.terms c.args.limited c.ratable
 bill c = billed c.args.terms c.args.limited c.ratable_of-k.result c.requires c.ratable_of-k.ensures
 
 pub overflow_mul-numerator-3 : goal.overflow_mul-numerator-3
-overflow_mul-numerator-3 c = omega (arith, (bill (goal.at.overflow_mul-numerator-3 c).After-ratable_of-k).numerator_most)
+overflow_mul-numerator-3 c =
+    let b = bill (goal.at.overflow_mul-numerator-3 c).After-ratable_of-k in
+    omega (arith, b.numerator_most)
 
 pub overflow_add-result : goal.overflow_add-result
-overflow_add-result c = omega (arith, (bill (goal.at.overflow_add-result c).After-ratable_of-k).numerator_most)
+overflow_add-result c =
+    let b = bill (goal.at.overflow_add-result c).After-ratable_of-k in
+    omega (arith, b.numerator_most)
 
 pub overflow_cast-result : goal.overflow_cast-result
 overflow_cast-result c =

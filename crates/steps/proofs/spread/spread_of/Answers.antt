@@ -9,8 +9,9 @@ loop-i-preserved c =
     let v = c.loop-i.invariant in
     let n = c.requires.1 in
     let t = c.loop-i-test.true in
-    let l : get_or c.args.limiteds.now c.loop-i.i 0 ≤ 2 ^ 32 = omega (arith, c.type_inv.limiteds c.loop-i.i) in
-    let scaled : c.args.scale * get_or c.args.limiteds.now c.loop-i.i 0 ≤ 25500 * 2 ^ 32 = mul-le-mul c.requires.2 l in
+    let a = get_or c.args.limiteds.now c.loop-i.i 0 in
+    let l : a ≤ 2 ^ 32 = omega (arith, c.type_inv.limiteds c.loop-i.i) in
+    let scaled : c.args.scale * a ≤ 25500 * 2 ^ 32 = mul-le-mul c.requires.2 l in
     record {
       within = omega arith;
       above_most = omega arith;

@@ -1,0 +1,2 @@
+-- The laws of the loop over risks.
+pub mod Opening

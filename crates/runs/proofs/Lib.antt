@@ -1,0 +1,2 @@
+-- The laws of the loop over claims with bits.
+pub mod Joined

@@ -1,0 +1,132 @@
+-- Write's questions as the code asks them, one after another: each answer makes the verdict, or leaves it
+-- to the questions after it. And what a verdict makes of the answer and of the buffer.
+use mathlib.Core.Path.{◌≡◌, sym, ap, ◌∙◌}
+use mathlib.Core.Bool.{Bool, true, false}
+use mathlib.Core.List.{List, [], ◌∷◌, ◌++◌}
+use Prim.Native.Nat.{ℕ, ◌+◌, ◌*◌, ◌≤◌, ◌<◌}
+use borrow.Author.Tests.{le-leb, lt-leb}
+use lib.Dec.{leb}
+use lib.ListN.{length}
+use Rattle.plan.specs.Field.{bytes_for}
+use Rattle.plan.specs.Header.{header_bits}
+use Rattle.plan.specs.Claim.{claim_width}
+use Rattle.plan.specs.Risk.{count_width, divided}
+use Rattle.plan.specs.File.{Group, claims_given, file_of}
+use Rattle.plan.specs.Questions.{Question, ask, Verdict, passed, failed, first_no, or_else}
+use Rattle.plan.specs.Questions.{known_edition, header_questions, question13, question15, question19}
+use Rattle.plan.specs.Questions.{write_enough, write_questions}
+use Rattle.plan.specs.Calls.{Answer, given, giving, filled, buffer_after, write}
+use Rattle.plan.proofs.Questions.{goes_on, stops, after-gate, answered}
+use Rattle.plan.proofs.Writable.{Writable, fifteen-sound}
+use Rattle.fitting.specs.Fitting.{OpenSays}
+use Rattle.putting.specs.Putting.{Ready}
+use Rattle.writing.specs.Writer.{WriteSays}
+use Rattle.writing.specs.declared.writer.Written.TheVariants as written
+use Rattle.writing.proofs.Lengths.{file-length}
+
+-- what the values are that question 15 passes
+pub fifteen : (g : Group) → ask 15 true ≡ question15 g → Writable g
+fifteen g e = fifteen-sound g (ap (λ (q : Question). first_no (q ∷ [])) (sym e))
+
+module _ (g : Group) (old : List ℕ) where
+  abbrev file : List ℕ
+  file = file_of g
+
+  abbrev header3_7 : List Question
+  header3_7 = header_questions g.header (length g.counts)
+
+  abbrev open19 : Question
+  open19 = question19 (divided g.counts (claims_given g))
+
+  abbrev enough13 : Question
+  enough13 = question13 (write_enough g (length old))
+
+  abbrev verdict : Verdict
+  verdict = first_no (write_questions g (length old))
+
+  -- ---- the answer and the buffer of a verdict
+
+  says-refused : {k : ℕ} → verdict ≡ failed k → WriteSays g old (written.Refused k) old
+  unfolding write
+  says-refused e =
+      let a = sym (answered file e) in
+      record {
+        answer = ap (giving length) a;
+        buffer = ap (λ (x : Answer (List ℕ)). buffer_after (λ b. b) x old) a;
+      }
+
+  says-length : {n : ℕ} {new : List ℕ} → verdict ≡ passed → n ≡ length file → new ≡ filled file old
+      → WriteSays g old (written.Length n) new
+  unfolding write
+  says-length e l b =
+      let a = sym (answered file e) in
+      record {
+        answer = ap given l ∙ ap (giving length) a;
+        buffer = b ∙ ap (λ (x : Answer (List ℕ)). buffer_after (λ b. b) x old) a;
+      }
+
+  -- ---- question 2
+
+  pub refused-2 : false ≡ known_edition g.edition → WriteSays g old (written.Refused 2) old
+  refused-2 e = says-refused (stops 2 (header3_7 ++ question15 g ∷ open19 ∷ enough13 ∷ []) (sym e))
+
+  module _ (yes2 : true ≡ known_edition g.edition) where
+    -- ---- questions 3 to 7
+
+    past-2 : {v : Verdict} → v ≡ first_no header3_7
+        → verdict ≡ or_else v (first_no (question15 g ∷ open19 ∷ enough13 ∷ []))
+    past-2 f =
+        let last = question15 g ∷ open19 ∷ enough13 ∷ [] in
+        goes_on 2 (header3_7 ++ last) (sym yes2) ∙ after-gate header3_7 last (sym f)
+
+    pub refused-header : {k : ℕ} → failed k ≡ first_no header3_7 → WriteSays g old (written.Refused k) old
+    refused-header f = says-refused (past-2 f)
+
+    module _ (yes7 : passed ≡ first_no header3_7) where
+      -- ---- question 15
+
+      past-7 : {b : Bool} → ask 15 b ≡ question15 g → verdict ≡ first_no (ask 15 b ∷ open19 ∷ enough13 ∷ [])
+      past-7 e = past-2 yes7 ∙ ap (λ (q : Question). first_no (q ∷ open19 ∷ enough13 ∷ [])) (sym e)
+
+      pub refused-15 : ask 15 false ≡ question15 g → WriteSays g old (written.Refused 15) old
+      refused-15 e = says-refused (past-7 e)
+
+      module _ (yes15 : ask 15 true ≡ question15 g) where
+        -- ---- question 19, which is answered whatever the dollars
+
+        past-15 : {b : Bool} → OpenSays g.counts g.joined b → verdict ≡ first_no (ask 19 b ∷ enough13 ∷ [])
+        past-15 x =
+            past-7 yes15
+            ∙ ap (λ (b : Bool). first_no (ask 19 b ∷ enough13 ∷ [])) (sym (x g.claims (fifteen g yes15).bits))
+
+        pub refused-19 : OpenSays g.counts g.joined false → WriteSays g old (written.Refused 19) old
+        refused-19 x = says-refused (past-15 x)
+
+        -- ---- question 13, with the length computed
+
+        module _ (yes19 : OpenSays g.counts g.joined true) {size : ℕ}
+            (is : size
+            ≡ bytes_for (header_bits + count_width * length g.counts + claim_width g.edition * length g.claims)) where
+          -- the length computed is the file's
+          right : size ≡ length file
+          right = is ∙ sym (file-length (fifteen g yes15))
+
+          past-19 : {b : Bool} → leb size (length old) ≡ b → verdict ≡ first_no (ask 13 b ∷ [])
+          past-19 e =
+              past-15 yes19
+              ∙ ap (λ (b : Bool). first_no (ask 13 b ∷ [])) (ap (λ (n : ℕ). leb n (length old)) (sym right) ∙ e)
+
+          pub refused-13 : length old < size → WriteSays g old (written.Refused 13) old
+          refused-13 h = says-refused (past-19 (lt-leb size (length old) h))
+
+          -- ---- all passed
+
+          module _ (h : size ≤ length old) where
+            passes : verdict ≡ passed
+            passes = past-19 (le-leb size (length old) h)
+
+            pub ready : Ready g old size
+            ready = record { passes = passes; is = right }
+
+            pub written-all : {new : List ℕ} → new ≡ filled file old → WriteSays g old (written.Length size) new
+            written-all b = says-length passes right b

@@ -1,0 +1,29 @@
+-- A file's length: the header, a count for each risk, and as many claims as the counts add to.
+use mathlib.Core.Path.{◌≡◌, ap, ◌∙◌}
+use Prim.Native.Nat.{ℕ, ◌+◌, ◌*◌}
+use native.Mathlib.Omega.{arith}
+use lib.ListN.{length}
+use Rattle.plan.specs.Field.{bytes_for}
+use Rattle.plan.specs.Header.{header_bits, header_slots}
+use Rattle.plan.specs.Claim.{claim_width}
+use Rattle.plan.specs.Risk.{count_width, slots_of_risks}
+use Rattle.plan.specs.File.{Group, claims_given, file_slots, file_length}
+use Rattle.plan.proofs.Written.{width-append, length-bytes_of}
+use Rattle.plan.proofs.Claims.{length-claims-of}
+use Rattle.plan.proofs.Risks.{risks-width}
+use Rattle.plan.proofs.Writable.{Writable}
+
+pub file-length : {g : Group} → Writable g
+    → file_length g
+    ≡ bytes_for (header_bits + count_width * length g.counts + claim_width g.edition * length g.claims)
+file-length {g} w =
+    length-bytes_of (file_slots g)
+    ∙ ap bytes_for
+    (omega (
+      arith,
+      width-append (header_slots g.edition g.header (length g.counts))
+          (slots_of_risks g.edition g.counts (claims_given g)),
+      risks-width g.edition g.counts (claims_given g)
+          (omega (arith, w.adds, length-claims-of g.joined g.claims w.bits)),
+      ap (λ (n : ℕ). claim_width g.edition * n) w.adds,
+    ))
