@@ -1,6 +1,6 @@
 //! The program crates/retro/out/retro where an input cannot be read, output cannot be written, or
-//! an argument is given: no refusal, and a line on standard error. The exit statuses are those of
-//! docs/DECISIONS.md.
+//! an argument is given: no refusal, and a line on standard error, but where nobody reads the output
+//! any more. The exit statuses are those of docs/DECISIONS.md.
 
 use retro_tests::{examples, program, repository};
 use std::fs::{self, File, OpenOptions};
@@ -15,10 +15,10 @@ fn example(name: &str) -> File {
     File::open(examples().join(name)).unwrap()
 }
 
-/// The one line on standard error, of a run that printed nothing.
-fn said(output: Output) -> String {
+/// The one line on standard error, of a run that printed nothing and ended with this status.
+fn said(output: Output, status: i32) -> String {
     assert!(output.stdout.is_empty(), "{output:?}");
-    assert!(output.status.code().is_some(), "{output:?}");
+    assert_eq!(output.status.code(), Some(status), "{output:?}");
     String::from_utf8(output.stderr).unwrap()
 }
 
@@ -26,7 +26,7 @@ fn said(output: Output) -> String {
 fn a_directory() {
     let folder = File::open(examples()).unwrap();
     let output = Command::new(program()).stdin(folder).output().unwrap();
-    assert_eq!(said(output), "retro: standard input: Is a directory\n");
+    assert_eq!(said(output, 1), "retro: standard input: Is a directory\n");
 }
 
 #[test]
@@ -36,7 +36,7 @@ fn a_closed_standard_input() {
         .arg(program())
         .output()
         .unwrap();
-    assert_eq!(said(output), "retro: standard input: Bad file descriptor\n");
+    assert_eq!(said(output, 1), "retro: standard input: Bad file descriptor\n");
 }
 
 /// Builds the read that fails.
@@ -65,7 +65,7 @@ fn a_read_that_fails_midway() {
             .stdin(example("four-risks.group"))
             .output()
             .unwrap();
-        let said = said(output);
+        let said = said(output, 1);
         assert_eq!(
             said, "retro: standard input: Input/output error\n",
             "{number}"
@@ -95,7 +95,7 @@ fn a_full_disk() {
             .output()
             .unwrap();
         assert_eq!(
-            said(output),
+            said(output, 1),
             "retro: standard output: No space left on device\n"
         );
     }
@@ -114,7 +114,7 @@ fn a_disk_that_is_full_midway() {
         .stdin(example("largest.group"))
         .output()
         .unwrap();
-    assert_eq!(said(output), "retro: standard output: File too large\n");
+    assert_eq!(said(output, 1), "retro: standard output: File too large\n");
     let whole = fs::read(examples().join("largest.expected")).unwrap();
     let printed = fs::read(&path).unwrap();
     assert!(printed.len() < whole.len() && whole.starts_with(&printed));
@@ -151,6 +151,6 @@ fn arguments() {
             .stdin(example("four-risks.group"))
             .output()
             .unwrap();
-        assert_eq!(said(output), "usage: retro < FILE\n");
+        assert_eq!(said(output, 0), "usage: retro < FILE\n");
     }
 }

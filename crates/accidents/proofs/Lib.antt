@@ -1,2 +1,2 @@
--- The law of a pair.
+-- Room for the second claim of a pair.
 mod Room

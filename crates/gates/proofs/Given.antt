@@ -29,10 +29,10 @@ use Rattle.steps.specs.declared.balance.Balanced.TheVariants as balanced
 abbrev pub no_losses : Losses
 no_losses = record { total = 0; limited = 0 }
 
-get_d_map : {A B : Type 0} (f : A → B) (xs : List A) (i : ℕ) (d : A) → get_or (map f xs) i (f d) ≡ f (get_or xs i d)
-get_d_map f [] i d = refl
-get_d_map f (x ∷ xs) zero d = refl
-get_d_map f (x ∷ xs) (suc i) d = get_d_map f xs i d
+get_or-map : {A B : Type 0} (f : A → B) (xs : List A) (i : ℕ) (d : A) → get_or (map f xs) i (f d) ≡ f (get_or xs i d)
+get_or-map f [] i d = refl
+get_or-map f (x ∷ xs) zero d = refl
+get_or-map f (x ∷ xs) (suc i) d = get_or-map f xs i d
 
 module _ (s : List ℕ) {t : Terms}
     (gave : balanced_is (balanced.Given t) ≡ answer (first_no (rating_questions s)) (terms_of (header_of s) (losses_in s))) where
@@ -77,4 +77,4 @@ module _ (s : List ℕ) {t : Terms}
         ap₂ bill_with terms-are
         (sym (get_or-take t.risks g.limiteds i 0 h)
         ∙ ap (λ (l : List ℕ). get_or l i 0) first-limiteds
-        ∙ get_d_map (λ (r : Losses). r.limited) (losses_in s) i no_losses)
+        ∙ get_or-map (λ (r : Losses). r.limited) (losses_in s) i no_losses)

@@ -1,5 +1,5 @@
 -- Document 02, job 5: 'in doubles'. A double is a value of IEEE 754's binary64; each operation works out its result exactly and
--- rounds it once, to the nearest double and at a tie to the one whose last digit is even (the kit's `lib.Ieee`).
+-- rounds it once, to the nearest double and at a tie to the one whose last digit is even (the kit's `Rattle.std.specs.Float.Ieee`).
 use Rattle.std.specs.Prelude.{ℕ, Bool, ℤ, pos, Float}
 use Rattle.std.specs.Float.{binary64}
 use Rattle.std.specs.Float.Ieee.{add, mul, div, le, of_int}

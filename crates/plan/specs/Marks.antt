@@ -9,7 +9,7 @@ use Rattle.plan.specs.Losses.{Losses, SA}
 pub record LossRatio : Type 0 where
   pub thousandths : ℕ
 
--- limited losses as a ratio of the group's mean limited losses, SA ÷ n: document 002's r', 'an index of the expected loss
+-- limited losses as a ratio of the group's mean limited losses, SA ÷ n: document 002's r′, 'an index of the expected loss
 -- ratio E'; 001's entry ratio
 pub record EntryRatio : Type 0 where
   pub thousandths : ℕ

@@ -3,10 +3,9 @@
 use mathlib.Core.Path.{◌≡◌, sym, ap, ◌∙◌, subst, subst₂}
 use mathlib.Core.Bool.{Bool}
 use mathlib.Core.List.{List, [], ◌∷◌}
-use Prim.Native.Nat.{ℕ, ◌*◌, ◌≤◌, ◌<◌}
+use Prim.Native.Nat.{ℕ, ◌*◌, ◌≤◌}
 use native.Mathlib.Omega.{arith}
 use borrow.Author.Tests.{le-leb}
-use lib.IntN.{pos}
 use lib.ListN.{length}
 use Rattle.plan.specs.Arithmetic.{sum}
 use Rattle.plan.specs.Field.{slots, bytes_of}
@@ -15,13 +14,13 @@ use Rattle.plan.specs.Losses.{losses_in}
 use Rattle.plan.specs.Premium as plan
 use Rattle.plan.specs.Premium.{terms_of, billed_premiums}
 use Rattle.plan.specs.Demand3.{Demand3}
-use Rattle.plan.specs.Questions.{Verdict, passed, failed, first_no, or_else, rating_questions, question13, rate_enough, rate_questions}
-use Rattle.plan.specs.Calls.{Answer, refused, given, answer, giving, filled, buffer_after, Rated, rated_of, rate, premium_bytes, rate_buffer}
+use Rattle.plan.specs.Questions.{Verdict, failed, first_no, or_else, rating_questions, question13, rate_enough, rate_questions}
+use Rattle.plan.specs.Calls.{Answer, given, answer, giving, filled, buffer_after, Rated, rated_of, rate, premium_bytes, rate_buffer}
 use Rattle.plan.proofs.Questions.{after-gate, answered}
 use Rattle.plan.proofs.Demand3.{demand3}
 use Rattle.group.specs.Values.{LossesAre}
 use Rattle.group.specs.declared.GroupLosses.{GroupLosses}
-use Rattle.steps.specs.Terms.{terms_is, balanced_is}
+use Rattle.steps.specs.Terms.{balanced_is}
 use Rattle.steps.specs.declared.bill.Terms.{Terms}
 use Rattle.steps.specs.declared.balance.Balanced.TheVariants as balanced
 use Rattle.gates.proofs.Given.{passes, terms-are, risk-count, bills-are}

@@ -1,7 +1,7 @@
 // The program `retro`: rates the group file on standard input and prints document 01's lines, or `refused` and the number. It
 // reads one byte more than the largest file has: of a longer input the header is the same, and question 8 is answered No for
 // the part read as for the whole. An input that cannot be read, output that cannot be written and an argument are no refusals:
-// each is told on standard error.
+// each is told on standard error, but where nobody reads the output any more.
 #![tactic(auto)]
 
 ghost use Rattle.retro.specs.Input.{Within, ReadsAll};

@@ -6,18 +6,17 @@ use Prim.Native.Nat.{ℕ}
 use lib.IntN.{ℤ, pos}
 use lib.Ieee.{Float}
 use lib.ListN.{length}
-use Rattle.plan.specs.Demand3.{Demand3}
-use Rattle.plan.specs.Calls.{Answer, refused, given, giving, number_after, buffer_after, Rated, rate, Demand3After, Tabled, table}
+use Rattle.plan.specs.Calls.{Answer, refused, given, giving, number_after, Rated, rate, Demand3After, Tabled, table}
 use Rattle.plan.specs.File.{Group}
 use Rattle.plan.specs.Calls.{write}
 use Rattle.plan.proofs.Answers.{Gave, giving-refused, giving-given}
 use Rattle.group.specs.Values.{header_is}
 use Rattle.reading.specs.Reading.{values_given, Buffers, read_with, ReadSays}
-use Rattle.writing.specs.Writer.{length_is, WriteSays}
+use Rattle.writing.specs.Writer.{WriteSays}
 use Rattle.reading.specs.declared.ReadValues as reading
 use Rattle.reading.specs.declared.GroupRead.TheVariants as reads
 use Rattle.writing.specs.declared.writer.Written.TheVariants as writes
-use Rattle.rating.specs.Rates.{Figures, figures_of, figures_are, RateSays, Demanded}
+use Rattle.rating.specs.Rates.{Figures, figures_of, RateSays, Demanded}
 use Rattle.tables.specs.Tables.{ratios_are}
 use Rattle.rating.specs.declared.rates.GroupFigures as rating
 use Rattle.tables.specs.declared.Ratios as tabling

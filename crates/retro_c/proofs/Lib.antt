@@ -1,3 +1,3 @@
--- Laws that the proofs of the exported calls cite, and that none of these answers 11.
+-- What the exported calls' answers come to, law by law, and that none of these calls answers 11.
 pub mod Exports
 pub mod Eleven

@@ -1,3 +1,3 @@
--- Laws that the proofs of several functions cite.
+-- How numbers in two parts compare, and what premiums come to.
 mod Pairs
 mod Premiums

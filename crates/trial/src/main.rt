@@ -243,14 +243,7 @@ fn three_risks(rt: &impl Print) -> io::Result<()> {
     let h = smallest(1000);
     let mut out = [0u8; 21];
     let mut premiums = [7u8; 12];
-    show_write(
-        rt,
-        "three, claim 0",
-        smallest(1000),
-        &[1, 0, 0],
-        &[0],
-        &mut out,
-    )?;
+    show_write(rt, "three, claim 0", h, &[1, 0, 0], &[0], &mut out)?;
     show_rate(rt, "three, claim 0", &out, &mut premiums)?;
     show_write(rt, "three", h, &[1, 0, 0], &[1], &mut out)?;
     show_rate(rt, "three", &out, &mut premiums)?;

@@ -1,5 +1,5 @@
 -- L and A from the walk, K from them and the file's LG and LH.
-use Rattle.std.proofs.Common.{◌≡◌, sym, ap, ◌∙◌, List, map, ℕ, ◌≤◌, take, arith}
+use Rattle.std.proofs.Common.{◌≡◌, sym, ap, ◌∙◌, List, map, ℕ, take, arith}
 use mathlib.Core.List.{map-map}
 use Rattle.plan.specs.Header.{header_of}
 use Rattle.plan.specs.Losses.{Losses, losses_in}

@@ -1,15 +1,13 @@
 -- One entry more is K of the next risk.
-use mathlib.Core.Path.{◌≡◌, refl, sym, ap, ap₂, ◌∙◌}
+use mathlib.Core.Path.{◌≡◌, sym, ap, ap₂, ◌∙◌}
 use mathlib.Core.List.{List, [], ◌∷◌, ◌++◌, map}
-use Prim.Native.Nat.{ℕ, suc, ◌+◌, ◌-◌, ◌≤◌, ◌<◌}
+use Prim.Native.Nat.{ℕ, ◌+◌, ◌-◌, ◌<◌}
 use native.Mathlib.Numerals.{add-one}
 use native.Mathlib.Omega.{arith}
-use borrow.Author.Rules.{rules}
 use lib.ListN.{length, get_or, take, set}
 use lib.Seq.{take-suc, length-take-le}
 use Rattle.plan.specs.Sizes.{most_risks}
 use Rattle.plan.specs.Ratable.{clamp}
-use Rattle.plan.proofs.Filled.{filled_none}
 use Rattle.group.specs.Values.{first_of}
 use Rattle.group.proofs.Losses.{first_more}
 use Rattle.rating.proofs.details.ratables_of.Goals as goal

@@ -1,5 +1,5 @@
 -- A turn puts the next bill, 32 bits from a byte's start on, and adds it to the sum.
-use Rattle.std.proofs.Common.{◌≡◌, sym, subst, ℕ, arith}
+use Rattle.std.proofs.Common.{sym, subst, ℕ, arith}
 use Rattle.plan.proofs.Fields.{Bytes}
 use Rattle.bits.specs.Put.{Room}
 use Rattle.bits.proofs.Runs.{room}

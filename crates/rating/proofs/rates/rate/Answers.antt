@@ -1,5 +1,5 @@
 -- Questions 1 to 12, then 13, then the bills of the file's group, of which demand 3 holds.
-use Rattle.std.proofs.Common.{◌≡◌, refl, sym, ap, ◌∙◌, ℕ, ◌*◌, ◌≤◌, ◌<◌, length, arith}
+use Rattle.std.proofs.Common.{refl, sym, ap, ◌∙◌, ◌*◌, ◌<◌, length, arith}
 use borrow.Author.Tests.{lt-leb}
 use Rattle.plan.specs.Header.{header_of, risk_count}
 use Rattle.plan.specs.Losses.{losses_in}
