@@ -1,4 +1,5 @@
 -- Questions 20 and 21, then the charge.
+use Rattle.std.proofs.Common.{arith}
 use Rattle.charges.proofs.Answers.{below-first, above-last, above-ratio, given_is, on-table}
 use Rattle.charges.proofs.charge.Goals as goal
 
@@ -12,8 +13,7 @@ returns-then-column-gt-LAST_COLUMN-clause-says c =
 
 pub returns-then-entry_ratio-gt-LAST_RATIO-clause-says : goal.returns-then-entry_ratio-gt-LAST_RATIO-clause-says
 returns-then-entry_ratio-gt-LAST_RATIO-clause-says c =
-    above-ratio c.args.column c.args.entry_ratio c.if-column-lt-FIRST_COLUMN.false c.if-column-gt-LAST_COLUMN.false
-    c.if-entry_ratio-gt-LAST_RATIO.true
+    above-ratio c.args.column c.args.entry_ratio (omega arith) (omega arith) c.if-entry_ratio-gt-LAST_RATIO.true
 
 pub returns-clause-says : goal.returns-clause-says
 returns-clause-says c =
