@@ -507,7 +507,7 @@ accidents_case = (
   refl,
 )
 
--- Document 02, job 5, on columns.36, .44 and .52 at r 0, 0.50, 1.00, 2.00 and 5.00: the double by its bits, and its thousandths
+-- Document 02, job 5, on columns .36, .44 and .52 at r 0, 0.50, 1.00, 2.00 and 5.00: the double by its bits, and its thousandths
 abbrev charged : ℕ → ℕ → Answer Charged
 charged bits n = given (record { unrounded = of_bits binary64 bits; in_thousandths = n })
 

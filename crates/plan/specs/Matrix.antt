@@ -5,7 +5,7 @@
 use Rattle.std.specs.Prelude.{ℕ, ◌+◌, ◌-◌, ◌*◌, ◌≤◌, List, [], ◌∷◌, ℤ, pos, negsuc, ◌+ℤ◌, ◌-ℤ◌, ◌*ℤ◌, nat_abs, get_or}
 use Rattle.plan.specs.Arithmetic.{sum_z}
 
--- 'columns.36 to .52', in hundredths
+-- 'columns .36 to .52', in hundredths
 abbrev pub first_column : ℕ
 first_column = 36
 
@@ -55,7 +55,7 @@ matrix =
     ∷ negsuc 4911549 ∷ pos 10191766 ∷ negsuc 10283314 ∷ pos 5666651 ∷ negsuc 1663802 ∷ pos 245276 ∷ negsuc 14255 ∷ []
 
 -- b_(i + 2) of a column given in hundredths, in ten-millionths, for columns from .36 to .52 and i below 7, which is all that is asked for:
--- below.36 the minus would stop at 0, and from 7 on i would reach the next row
+-- below .36 the minus would stop at 0, and from 7 on i would reach the next row
 abbrev pub coefficient : ℕ → ℕ → ℤ
 coefficient column i = get_or matrix ((column - first_column) * coefficients + i) (pos 0)
 
