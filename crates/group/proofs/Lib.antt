@@ -1,2 +1,2 @@
--- Laws of the code's losses. Crates above cite them as Rattle.group.proofs.Losses.
-pub mod Losses
+-- Laws of the code's losses. Crates above cite them as Rattle.group.proofs.Group.
+pub mod Group

@@ -1,2 +1,3 @@
 -- The code's values as document 01's.
+pub mod Refusals
 pub mod Values

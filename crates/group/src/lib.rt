@@ -2,9 +2,12 @@
 // means in document 01 is in specs/; nothing here knows how they lie in a file.
 #![tactic(auto)]
 
-ghost use Rattle.std.specs.Prelude.{◌≡◌};
-ghost use Rattle.plan.specs.Questions.{or_else};
-ghost use Rattle.group.specs.Values.{verdict_is};
+ghost use Rattle.std.specs.Prelude.{◌≡◌, length};
+ghost use Rattle.group.specs.Refusals.{number_of};
+
+use arrayvec::ArrayVec;
+use std::error::Error;
+use std::fmt;
 
 // Sizes by name, as plan's Sizes has them: the most risks of a group, the most claims of a risk, the largest mark in
 // thousandths, and the bytes of the largest file.
@@ -30,29 +33,70 @@ pub struct Header {
     pub minimum_mark: u32,
 }
 
-// What questions come to: all passed, or the number of the first that failed.
-#[derive(Clone, Copy)]
-pub enum Verdict {
-    Passed,
-    Failed(u32),
+// Why a call is refused, by the first question that failed. The values are the questions' numbers in documents 01 and 02.
+#[derive(Clone, Copy, Debug, PartialEq, Eq)]
+pub enum Refusal {
+    NoHeader = 1,
+    Edition = 2,
+    StandardPremium = 3,
+    Conversion = 4,
+    Tax = 5,
+    Mark = 6,
+    NoRisks = 7,
+    Length = 8,
+    Fill = 9,
+    NoLosses = 10,
+    NegativeBasic = 12,
+    Room = 13,
+    EntryRatio = 14,
+    Misfit = 15,
+    DiscountRate = 16,
+    LayerWidth = 17,
+    MarkOrder = 18,
+    FirstJoined = 19,
+    Column = 20,
+    TableRatio = 21,
+    PremiumOrder = 22,
+    OutOfReach = 23,
 }
 
-// What questions come to that are asked one list after another: the No of the first, else what the second comes to.
-pub fn first_of(first: Verdict, second: Verdict) -> Verdict
-    ensures { verdict_is result ≡ or_else (verdict_is first) (verdict_is second) }
-{
-    match first {
-        Verdict::Failed(k) => Verdict::Failed(k),
-        Verdict::Passed => second,
+// The question's number, which is what a call for C answers.
+impl From<Refusal> for u32 {
+    ghost from_gives = { λ refusal number. number ≡ number_of refusal };
+
+    fn from(refusal: Refusal) -> u32 {
+        refusal as u32
     }
 }
 
-// The losses of a group: n, SL and SA, and L and A of each risk in the first n entries.
-#[derive(Clone, Copy)]
+impl fmt::Display for Refusal {
+    fn fmt<W: fmt::Write>(&self, f: &mut fmt::Formatter<W>) -> fmt::Result {
+        write!(f, "{}", u32::from(*self))
+    }
+}
+
+impl Error for Refusal {}
+
+// L and A of a risk.
+#[derive(Clone, Copy, Default)]
+pub struct Losses {
+    pub total: u32,
+    pub limited: u32,
+}
+
+// The losses of a group: L and A of each of its risks, and SL and SA.
+#[derive(Drop)]
 pub struct GroupLosses {
-    pub risks: u32,
+    pub of_risks: ArrayVec<Losses, MOST_RISKS>,
     pub total: u64,
     pub limited: u64,
-    pub totals: [u32; MOST_RISKS],
-    pub limiteds: [u32; MOST_RISKS],
+}
+
+impl GroupLosses {
+    // n.
+    pub fn risks(&self) -> u32
+        ensures { result ≡ length self.now.of_risks.items }
+    {
+        self.of_risks.len() as u32
+    }
 }

@@ -1,8 +1,8 @@
 -- What the walk over a file's claims gives.
-use Rattle.std.specs.Prelude.{◌≡◌, List, map, ℕ}
+use Rattle.std.specs.Prelude.{◌≡◌, List, ℕ, length}
 use Rattle.plan.specs.Header.{header_bits}
 use Rattle.plan.specs.Losses.{losses_from}
-use Rattle.group.specs.Values.{first_of}
+use Rattle.group.specs.Values.{losses_is}
 use Rattle.risks.specs.RunningSums.{SumsAre}
 use Rattle.risks.specs.declared.SumsSoFar.{SumsSoFar}
 use Rattle.walking.specs.declared.Walked.{Walked}
@@ -10,7 +10,7 @@ use Rattle.walking.specs.declared.Walked.{Walked}
 -- the running sums as the walk leaves them
 abbrev pub sums_of : Walked → SumsSoFar
 sums_of r = record {
-  risks = r.losses.risks;
+  risks = length r.losses.of_risks.items;
   claims = r.claims;
   opened = r.opened;
   total = r.losses.total;
@@ -21,5 +21,4 @@ sums_of r = record {
 -- all of the first n risks: the running sums over them, and L and A of each
 pub record WalkIs (s : List ℕ) (n limit : ℕ) (r : Walked) : Type 0 where
   pub sums : SumsAre s limit n (sums_of r)
-  pub totals : r.losses.totals ≡ first_of (map (λ r. r.total) (losses_from s limit header_bits n))
-  pub limiteds : r.losses.limiteds ≡ first_of (map (λ r. r.limited) (losses_from s limit header_bits n))
+  pub each : losses_is r.losses ≡ losses_from s limit header_bits n

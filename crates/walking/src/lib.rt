@@ -8,8 +8,9 @@ ghost use Rattle.plan.specs.Header.{edition_of, header_bits};
 ghost use Rattle.plan.specs.Sizes.{most_risks};
 ghost use Rattle.walking.specs.Walks.{WalkIs};
 
+use arrayvec::ArrayVec;
 use bits::BitPlace;
-use group::{GroupLosses, MOST_RISKS};
+use group::{GroupLosses, Losses};
 use risks::{SumsSoFar, pass_risk};
 
 // What the walk gives: the place where the last field ends, how many claims there are, whether each risk's first claim opens an
@@ -27,8 +28,7 @@ pub fn walk(file: &[u8], place: BitPlace, risks: u32, edition: u32, limit: u32) 
     requires { (risks ≤ most_risks) × (place.at ≡ header_bits) × (edition ≡ edition_of file.now) }
     ensures { WalkIs file.now risks limit result }
 {
-    let mut totals = [0u32; MOST_RISKS];
-    let mut limiteds = [0u32; MOST_RISKS];
+    let mut of_risks = ArrayVec::new();
     let mut sums = SumsSoFar {
         risks: 0,
         claims: 0,
@@ -37,24 +37,22 @@ pub fn walk(file: &[u8], place: BitPlace, risks: u32, edition: u32, limit: u32) 
         limited: 0,
         next: place,
     };
-    while sums.risks < risks {
-        let i = sums.risks as usize;
+    for _ in 0..risks {
         let risk = pass_risk(file, sums, edition, limit);
-        totals[i] = risk.total;
-        limiteds[i] = risk.limited;
+        of_risks.push(Losses {
+            total: risk.total,
+            limited: risk.limited,
+        });
         sums = risk.sums;
     }
-    let end = sums.next;
     Walked {
-        end,
+        end: sums.next,
         claims: sums.claims,
         opened: sums.opened,
         losses: GroupLosses {
-            risks,
+            of_risks,
             total: sums.total,
             limited: sums.limited,
-            totals,
-            limiteds,
         },
     }
 }

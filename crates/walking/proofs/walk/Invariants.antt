@@ -1,13 +1,13 @@
--- The invariant: the running sums and the stored losses are those of the risks passed so far. The measure is the risks to come.
---
-use Prim.Native.Nat.{◌-◌, ◌≤◌}
+-- The invariant: the running sums and the losses kept are those of the risks passed so far.
+use Rattle.std.proofs.Common.{◌≡◌}
+use Rattle.plan.specs.Header.{header_bits}
+use Rattle.plan.specs.Losses.{losses_from}
+use Rattle.group.specs.Values.{losses_of}
 use Rattle.risks.specs.RunningSums.{SumsAre}
-use Rattle.walking.proofs.Walking.{Stored}
 use Rattle.walking.proofs.walk.Given as goal
 
-abbrev pub invariant-loop-sums : goal.invariant-loop-sums
-invariant-loop-sums l =
-    SumsAre l.file l.limit l.sums.risks l.sums × Stored l.file l.limit l.sums.risks l.totals l.limiteds × (l.sums.risks ≤ l.risks)
-
-abbrev pub decreases-loop-sums : goal.decreases-loop-sums
-decreases-loop-sums l = l.risks - l.sums.risks
+abbrev pub invariant-loop : goal.invariant-loop
+invariant-loop l = record {
+  sums : SumsAre l.file l.limit l.counter l.sums;
+  kept : losses_of l.of_risks.items ≡ losses_from l.file l.limit header_bits l.counter;
+}
