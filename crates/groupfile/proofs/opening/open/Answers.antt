@@ -21,14 +21,8 @@ returns c =
     subst₂ (λ (n l : ℕ). WalkIs s n l c.walk-walked.result) e.risks (ap (λ (x : plan.Header). x.loss_limit) e.values)
     c.walk-walked.ensures in
     record {
-      verdict = c.file_verdict-verdict.ensures;
+      verdict = c.file_verdict.ensures;
       header = e.values;
       run = record { edition = e.edition; first = e.next; claims = l.sums.claims };
-      losses = record {
-        risks = l.sums.risks ∙ sym (length-losses s);
-        total = total-is-all l.sums;
-        limited = limited-is-all l.sums;
-        totals = l.totals;
-        limiteds = l.limiteds;
-      };
+      losses = record { each = l.each; total = total-is-all l.sums; limited = limited-is-all l.sums };
     }
