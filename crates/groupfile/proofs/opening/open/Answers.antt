@@ -1,9 +1,8 @@
 -- The walk is that of the file's own n and loss limit, from the header's end on: after the last risk its running sums are SL and
 -- SA, and it is at the file's end.
-use Rattle.std.proofs.Common.{sym, ap, ◌∙◌, subst₂, ℕ, arith}
+use Rattle.std.proofs.Common.{ap, subst₂, ℕ, arith}
 use Rattle.plan.specs.Header as plan
 use Rattle.plan.proofs.FileSizes.{risks-le}
-use Rattle.plan.proofs.Losses.{length-losses}
 use Rattle.risks.proofs.RunningSums.{total-is-all, limited-is-all}
 use Rattle.walking.specs.Walks.{WalkIs}
 use Rattle.groupfile.proofs.opening.open.Goals as goal
