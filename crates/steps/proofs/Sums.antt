@@ -1,5 +1,5 @@
 -- A sum that the code makes of a group's limited losses by a chain is that over the losses as document 01 has them. Assumes nothing.
-use Rattle.std.proofs.Common.{◌≡◌, refl, ap, ◌∙◌, ℕ, ◌+◌, List, [], ◌∷◌, map, sum, sum_by}
+use Rattle.std.proofs.Common.{◌≡◌, refl, ap, ◌∙◌, subst, ℕ, ◌+◌, List, [], ◌∷◌, map, sum, sum_by}
 use Rattle.std.proofs.lemmas.List.Sums.{sum-map, sum_by-cons}
 use Rattle.plan.specs.Arithmetic.{sum_of}
 use Rattle.plan.specs.Losses as plan
@@ -14,3 +14,7 @@ by-limited f (x ∷ xs) = sum_by-cons (λ (x : Losses). f x.limited) x xs ∙ ap
 pub sum-limited : (f : ℕ → ℕ) (xs : List Losses) → sum (map (λ (x : Losses). f x.limited) xs)
     ≡ sum_of (λ (r : plan.Losses). f r.limited) (losses_of xs)
 sum-limited f xs = sum-map (λ (x : Losses). f x.limited) xs ∙ by-limited f xs
+
+-- what losses come to by f, where they are passed as a slice
+pub of-slice : (f : plan.Losses → ℕ) {xs ys : List Losses} {v : ℕ} → v ≡ sum_of f (losses_of xs) → xs ≡ ys → v ≡ sum_of f (losses_of ys)
+of-slice f {v = v} e is = subst (λ (l : List Losses). v ≡ sum_of f (losses_of l)) is e

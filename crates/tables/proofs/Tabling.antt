@@ -1,13 +1,7 @@
 -- Table's answer from the verdict of its questions; and its numbers as the code has them are those of the file's group: the
 -- numerators, the divisor, and the bounds within which they are computed. Assumes nothing.
-use mathlib.Core.Path.{◌≡◌, refl, sym, ap, ap₂, ◌∙◌}
-use mathlib.Core.Bool.{Bool}
-use mathlib.Core.List.{List, [], ◌∷◌, map}
-use Prim.Native.Nat.{ℕ, ◌+◌, ◌*◌, ◌^◌, ◌≤◌, ◌<◌}
-use native.Mathlib.Nat.{mul-le-mul, mul-pos}
-use native.Mathlib.Omega.{arith}
-use lib.Dec.{leb}
-use lib.ListN.{length}
+use Rattle.std.proofs.Common.{◌≡◌, refl, sym, ap, ap₂, ◌∙◌, Bool, List, [], ◌∷◌, ℕ, ◌+◌, ◌*◌, ◌^◌, ◌≤◌, ◌<◌, leb, length, arith}
+use Rattle.std.proofs.Math.Nat.{mul-le-mul, mul-pos}
 use Rattle.plan.specs.Arithmetic.{sum_of, above, below, nearest}
 use Rattle.plan.specs.Sizes.{most_risks, most_group_losses, most_ratio}
 use Rattle.plan.specs.Header.{header_of}
@@ -16,7 +10,6 @@ use Rattle.plan.specs.Questions.{ask, Verdict, passed, first_no, or_else, loss_q
 use Rattle.plan.specs.Table.{charge_sum, savings_sum, charge, savings}
 use Rattle.plan.specs.Bounds.{GroupBounds}
 use Rattle.plan.specs.Calls.{answer, Tabled, table}
-use Rattle.plan.proofs.Sums.{sum-map}
 use Rattle.plan.proofs.Questions.{after-gate, answered, loss-sound}
 use Rattle.plan.proofs.FileSizes.{group-bounds}
 use Rattle.plan.proofs.Curve.{savings-charge}
@@ -40,14 +33,14 @@ module _ (s : List ℕ) (r : ℕ) where
 -- ---- the numbers, of n risks with limited losses sa in all
 
 -- what the code has at hand once questions 1 to 10 and 14 have passed
-pub record AtHand (s : List ℕ) (r n sa : ℕ) (limiteds : List ℕ) : Type 0 where
+pub record AtHand (s : List ℕ) (r n sa : ℕ) (rs : List Losses) : Type 0 where
   pub passes : first_no (loss_questions s) ≡ passed
   pub ratio : r ≤ most_ratio
   pub n_is : n ≡ length (losses_in s)
   pub sa_is : sa ≡ SA (losses_in s)
-  pub each : limiteds ≡ map (λ x. x.limited) (losses_in s)
+  pub each : rs ≡ losses_in s
 
-module _ {s : List ℕ} {r n sa : ℕ} {limiteds : List ℕ} (x : AtHand s r n sa limiteds) where
+module _ {s : List ℕ} {r n sa : ℕ} {rs : List Losses} (x : AtHand s r n sa rs) where
   bounds : GroupBounds (header_of s) (losses_in s)
   bounds = group-bounds s (loss-sound s x.passes).file
 
@@ -74,17 +67,13 @@ module _ {s : List ℕ} {r n sa : ℕ} {limiteds : List ℕ} (x : AtHand s r n s
   pub half-fits : 2 * (50 * n * sa) < 2 ^ 64
   half-fits = omega (arith, half_is, charge-lt (header_of s) (losses_in s) bounds r x.ratio)
 
-  pub charge-sum : sum_of (λ a. above (100 * n * a) (r * sa)) limiteds ≡ charge_sum (losses_in s) r
+  pub charge-sum : sum_of (λ a. above (100 * n * a.limited) (r * sa)) rs ≡ charge_sum (losses_in s) r
   unfolding charge_sum
-  charge-sum =
-      (λ i. sum_of (λ a. above (100 * count i * a) (r * x.sa_is i)) (x.each i))
-      ∙ sum-map (λ a. above (100 * length (losses_in s) * a) (r * SA (losses_in s))) (λ (x : Losses). x.limited) (losses_in s)
+  charge-sum = λ i. sum_of (λ (a : Losses). above (100 * count i * a.limited) (r * x.sa_is i)) (x.each i)
 
-  pub savings-sum : sum_of (λ a. below (100 * n * a) (r * sa)) limiteds ≡ savings_sum (losses_in s) r
+  pub savings-sum : sum_of (λ a. below (100 * n * a.limited) (r * sa)) rs ≡ savings_sum (losses_in s) r
   unfolding savings_sum
-  savings-sum =
-      (λ i. sum_of (λ a. below (100 * count i * a) (r * x.sa_is i)) (x.each i))
-      ∙ sum-map (λ a. below (100 * length (losses_in s) * a) (r * SA (losses_in s))) (λ (x : Losses). x.limited) (losses_in s)
+  savings-sum = λ i. sum_of (λ (a : Losses). below (100 * count i * a.limited) (r * x.sa_is i)) (x.each i)
 
   half-some : 0 < 50 * n * sa
   half-some =

@@ -4,11 +4,13 @@
 ghost use Rattle.std.specs.Prelude.{◌≡◌, ◌*◌};
 ghost use Rattle.plan.specs.Arithmetic.{nearest};
 ghost use Rattle.plan.specs.Calls as plan;
+ghost use Rattle.group.specs.Refusals.{answer_is};
 ghost use Rattle.tables.specs.Tables.{ThousandthsBounds, ratios_are, OnCurve};
 
 use gates::open_losses;
-use group::Verdict;
-use steps::spread::spread_of;
+use group::Refusal;
+use groupfile::opening::Opened;
+use steps::spread::{above_in_all, below_in_all};
 
 // The largest entry ratio, in hundredths.
 pub const MOST_RATIO: u32 = 600;
@@ -20,13 +22,6 @@ pub struct Ratios {
     pub savings: u32,
 }
 
-// What Table gives, or the number of the first question that failed.
-#[derive(Clone, Copy)]
-pub enum Tabled {
-    Given(Ratios),
-    Refused(u32),
-}
-
 // Thousandths of x ÷ divisor to the nearest, an exact half upward, by adding half of the divisor.
 fn thousandths_of(x: u64, half: u64, divisor: u64) -> u32
     requires { ThousandthsBounds x half divisor }
@@ -36,27 +31,26 @@ fn thousandths_of(x: u64, half: u64, divisor: u64) -> u32
 }
 
 // Table of a file of whatever bytes at an entry ratio of whatever hundredths.
-pub fn table(file: &[u8], r: u32) -> Tabled
-    ensures says { ratios_are result ≡ plan.table file.now r }
+pub fn table(file: &[u8], r: u32) -> Result<Ratios, Refusal>
+    ensures says { answer_is ratios_are result ≡ plan.table file.now r }
     ensures curve { OnCurve result r }
 {
-    let opened = open_losses(file);
-    let verdict = opened.verdict;
-    match verdict {
-        Verdict::Failed(k) => Tabled::Refused(k),
-        Verdict::Passed => {
-            if r > MOST_RATIO {
-                return Tabled::Refused(14);
-            }
-            let n = opened.losses.risks;
-            let limited = opened.losses.limited;
-            let entry = r as u64 * limited;
-            let sums = spread_of(&opened.losses.limiteds, n, 100 * n as u64, entry, entry);
-            let half = 50 * n as u64 * limited;
-            let divisor = 2 * half;
-            let charge = thousandths_of(sums.above, half, divisor);
-            let savings = thousandths_of(sums.below, half, divisor);
-            Tabled::Given(Ratios { charge, savings })
-        }
+    let Opened {
+        verdict,
+        losses,
+        ..
+    } = open_losses(file);
+    verdict?;
+    if r > MOST_RATIO {
+        return Err(Refusal::EntryRatio);
     }
+    let n = losses.risks() as u64;
+    let mark = r as u64 * losses.limited;
+    let above = above_in_all(&losses.of_risks, 100 * n, mark);
+    let below = below_in_all(&losses.of_risks, 100 * n, mark);
+    let half = 50 * n * losses.limited;
+    Ok(Ratios {
+        charge: thousandths_of(above, half, 2 * half),
+        savings: thousandths_of(below, half, 2 * half),
+    })
 }

@@ -1,12 +1,14 @@
 -- Questions 1 to 10, then 14, then the two ratios of the file's group.
-use Rattle.std.proofs.Common.{◌≡◌, refl, sym, ap, ◌∙◌, arith, List, ℕ, ◌≤◌, take}
+use Rattle.std.proofs.Common.{◌≡◌, refl, sym, ap, ◌∙◌, arith, List, ℕ, ◌≤◌, length, Ok}
+use Rattle.std.proofs.lemmas.Result.{err_from_is_err_and}
 use borrow.Author.Tests.{le-leb, lt-leb}
 use Rattle.plan.specs.Sizes.{most_ratio}
 use Rattle.plan.specs.Questions.{loss_questions}
 use Rattle.plan.specs.Calls.{given}
-use Rattle.group.specs.Values.{verdict_is}
-use Rattle.group.specs.declared.Verdict.TheVariants.{Passed}
-use Rattle.group.proofs.Losses.{limiteds_are, limiteds-enough}
+use Rattle.group.specs.Refusals.{verdict_is}
+use Rattle.group.specs.Values.{losses_is}
+use Rattle.group.proofs.Group.{risks}
+use Rattle.steps.proofs.Sums.{of-slice}
 use Rattle.groupfile.specs.Opening.{OpenedIs}
 use Rattle.groupfile.specs.declared.opening.Opened.{Opened}
 use Rattle.tables.proofs.Tabling.{AtHand, tabled, risks-few, entry-fits, half-fits, charge-sum, savings-sum}
@@ -14,77 +16,82 @@ use Rattle.tables.proofs.Tabling.{charge-bounds, savings-bounds, charge_is, savi
 use Rattle.tables.proofs.table.Goals as goal
 
 -- what is at hand past question 14
-at-hand : {s : List ℕ} {r : ℕ} {o : Opened}
-    → OpenedIs (loss_questions s) s o → o.verdict ≡ Passed → r ≤ most_ratio
-    → let g = o.losses in AtHand s r g.risks g.limited (take g.risks g.limiteds)
-at-hand x e h = record {
+at-hand : {s : List ℕ} {r n : ℕ} {o : Opened} → OpenedIs (loss_questions s) s o → o.verdict ≡ Ok tt → r ≤ most_ratio
+    → n ≡ length o.losses.of_risks.items → AtHand s r n o.losses.limited (losses_is o.losses)
+at-hand x e h count = record {
   passes = sym x.verdict ∙ ap verdict_is e;
   ratio = h;
-  n_is = x.losses.risks;
+  n_is = count ∙ risks x.losses;
   sa_is = x.losses.limited;
-  each = limiteds_are x.losses;
+  each = x.losses.each;
 }
+
+pub returns-in_err-verdict-clause-says : goal.returns-in_err-verdict-clause-says
+returns-in_err-verdict-clause-says c =
+    let a = c.args in
+    let p = err_from_is_err_and c.from_residual.result c.from_residual.ensures.1 in
+    rw (p.1, p.2) (tabled a.file.now a.r (sym c.open_losses-verdict.ensures.verdict ∙ ap verdict_is c.in_err-verdict.was) refl)
 
 pub returns-then-r-gt-MOST_RATIO-clause-says : goal.returns-then-r-gt-MOST_RATIO-clause-says
 returns-then-r-gt-MOST_RATIO-clause-says c =
     let a = c.args in
-    tabled a.file.now a.r (sym c.open_losses-opened.ensures.verdict ∙ ap verdict_is c.in-Passed.is)
+    tabled a.file.now a.r (sym c.open_losses-verdict.ensures.verdict ∙ ap verdict_is c.in_ok-verdict.was)
     (lt-leb _ _ c.if-r-gt-MOST_RATIO.true)
 
-pub overflow_mul-entry : goal.overflow_mul-entry
-overflow_mul-entry c =
-    omega (arith, entry-fits (at-hand c.open_losses-opened.ensures c.in-Passed.is c.if-r-gt-MOST_RATIO.false))
+pub overflow_mul-mark : goal.overflow_mul-mark
+overflow_mul-mark c =
+    let x = at-hand c.open_losses-verdict.ensures c.in_ok-verdict.was c.if-r-gt-MOST_RATIO.false c.risks-n.ensures in
+    omega (arith, entry-fits x)
 
-pub spread_of-sums-requires : goal.spread_of-sums-requires
-spread_of-sums-requires c =
-    let x = at-hand c.open_losses-opened.ensures c.in-Passed.is c.if-r-gt-MOST_RATIO.false in
-    let g = c.open_losses-opened.ensures.losses in (
-      risks-few x,
-      limiteds-enough g (omega (arith, risks-few x, x.n_is)),
-      omega (arith, risks-few x),
-      entry-fits x,
-      entry-fits x,
-    )
+pub above_in_all-above-requires : goal.above_in_all-above-requires
+above_in_all-above-requires c =
+    let x = at-hand c.open_losses-verdict.ensures c.in_ok-verdict.was c.if-r-gt-MOST_RATIO.false c.risks-n.ensures in
+    let few = risks-few x in
+    (c.deref.ensures.1, omega (arith, few))
 
-pub overflow_mul-half-in-Passed : goal.overflow_mul-half-in-Passed
-overflow_mul-half-in-Passed c =
-    omega (arith, half-fits (at-hand c.open_losses-opened.ensures c.in-Passed.is c.if-r-gt-MOST_RATIO.false))
+pub below_in_all-below-requires : goal.below_in_all-below-requires
+below_in_all-below-requires c =
+    let x = at-hand c.open_losses-verdict.ensures c.in_ok-verdict.was c.if-r-gt-MOST_RATIO.false c.risks-n.ensures in
+    let few = risks-few x in
+    (c.deref-2.ensures.1, omega (arith, few), entry-fits x)
 
-pub overflow_mul-divisor : goal.overflow_mul-divisor
-overflow_mul-divisor c =
-    omega (arith, half-fits (at-hand c.open_losses-opened.ensures c.in-Passed.is c.if-r-gt-MOST_RATIO.false))
+pub overflow_mul-half-2 : goal.overflow_mul-half-2
+overflow_mul-half-2 c =
+    let x = at-hand c.open_losses-verdict.ensures c.in_ok-verdict.was c.if-r-gt-MOST_RATIO.false c.risks-n.ensures in
+    omega (arith, half-fits x)
 
-pub thousandths_of-charge-requires : goal.thousandths_of-charge-requires
-thousandths_of-charge-requires c =
-    let x = at-hand c.open_losses-opened.ensures c.in-Passed.is c.if-r-gt-MOST_RATIO.false in
-    charge-bounds x (c.spread_of-sums.ensures.above_is ∙ charge-sum x)
+pub overflow_mul-half-3 : goal.overflow_mul-half-3
+overflow_mul-half-3 c =
+    let x = at-hand c.open_losses-verdict.ensures c.in_ok-verdict.was c.if-r-gt-MOST_RATIO.false c.risks-n.ensures in
+    omega (arith, half-fits x)
 
-pub thousandths_of-savings-requires : goal.thousandths_of-savings-requires
-thousandths_of-savings-requires c =
-    let x = at-hand c.open_losses-opened.ensures c.in-Passed.is c.if-r-gt-MOST_RATIO.false in
-    savings-bounds x (c.spread_of-sums.ensures.below_is ∙ savings-sum x)
+pub overflow_mul-half-4 : goal.overflow_mul-half-4
+overflow_mul-half-4 c =
+    let x = at-hand c.open_losses-verdict.ensures c.in_ok-verdict.was c.if-r-gt-MOST_RATIO.false c.risks-n.ensures in
+    omega (arith, half-fits x)
 
-pub returns-in-Failed-clause-says : goal.returns-in-Failed-clause-says
-returns-in-Failed-clause-says c =
+pub thousandths_of-requires : goal.thousandths_of-requires
+thousandths_of-requires c =
+    let x = at-hand c.open_losses-verdict.ensures c.in_ok-verdict.was c.if-r-gt-MOST_RATIO.false c.risks-n.ensures in
+    charge-bounds x (of-slice _ c.above_in_all-above.ensures c.deref.ensures.0 ∙ charge-sum x)
+
+pub thousandths_of-requires-2 : goal.thousandths_of-requires-2
+thousandths_of-requires-2 c =
+    let x = at-hand c.open_losses-verdict.ensures c.in_ok-verdict.was c.if-r-gt-MOST_RATIO.false c.risks-n.ensures in
+    savings-bounds x (of-slice _ c.below_in_all-below.ensures c.deref-2.ensures.0 ∙ savings-sum x)
+
+pub returns-clause-says : goal.returns-clause-says
+returns-clause-says c =
     let a = c.args in
-    tabled a.file.now a.r (sym c.open_losses-opened.ensures.verdict ∙ ap verdict_is c.in-Failed.is) refl
-
-pub returns-else-r-gt-MOST_RATIO-clause-says : goal.returns-else-r-gt-MOST_RATIO-clause-says
-returns-else-r-gt-MOST_RATIO-clause-says c =
-    let a = c.args in
-    let x = at-hand c.open_losses-opened.ensures c.in-Passed.is c.if-r-gt-MOST_RATIO.false in
-    let above_is = c.spread_of-sums.ensures.above_is ∙ charge-sum x in
-    let below_is = c.spread_of-sums.ensures.below_is ∙ savings-sum x in
-    let v = c.thousandths_of-charge.ensures ∙ charge_is x above_is in
-    let w = c.thousandths_of-savings.ensures ∙ savings_is x below_is in
+    let x = at-hand c.open_losses-verdict.ensures c.in_ok-verdict.was c.if-r-gt-MOST_RATIO.false c.risks-n.ensures in
+    let v = c.thousandths_of.ensures ∙ charge_is x (of-slice _ c.above_in_all-above.ensures c.deref.ensures.0 ∙ charge-sum x) in
+    let w = c.thousandths_of-2.ensures ∙ savings_is x (of-slice _ c.below_in_all-below.ensures c.deref-2.ensures.0 ∙ savings-sum x) in
     (λ i. given (record { charge = v i; savings = w i }))
     ∙ tabled a.file.now a.r x.passes (le-leb _ _ x.ratio)
 
-pub returns-else-r-gt-MOST_RATIO-clause-curve : goal.returns-else-r-gt-MOST_RATIO-clause-curve
-returns-else-r-gt-MOST_RATIO-clause-curve c =
-    let x = at-hand c.open_losses-opened.ensures c.in-Passed.is c.if-r-gt-MOST_RATIO.false in
-    let above_is = c.spread_of-sums.ensures.above_is ∙ charge-sum x in
-    let below_is = c.spread_of-sums.ensures.below_is ∙ savings-sum x in
-    let v = c.thousandths_of-charge.ensures ∙ charge_is x above_is in
-    let w = c.thousandths_of-savings.ensures ∙ savings_is x below_is in
+pub returns-clause-curve : goal.returns-clause-curve
+returns-clause-curve c =
+    let x = at-hand c.open_losses-verdict.ensures c.in_ok-verdict.was c.if-r-gt-MOST_RATIO.false c.risks-n.ensures in
+    let v = c.thousandths_of.ensures ∙ charge_is x (of-slice _ c.above_in_all-above.ensures c.deref.ensures.0 ∙ charge-sum x) in
+    let w = c.thousandths_of-2.ensures ∙ savings_is x (of-slice _ c.below_in_all-below.ensures c.deref-2.ensures.0 ∙ savings-sum x) in
     on-curve x v w

@@ -1,7 +1,6 @@
 -- Question 12 by M's sign, and the terms where it passes, since the numbers that the code has are the group's.
-use Rattle.std.proofs.Common.{◌≡◌, sym, ap, ◌∙◌, subst, true, false, List, [], ℕ}
+use Rattle.std.proofs.Common.{◌≡◌, sym, ap, ◌∙◌, true, false, List, []}
 use Rattle.std.specs.Int.Signed.{non_neg}
-use Rattle.plan.specs.Arithmetic.{sum_of}
 use Rattle.plan.specs.Header as plan
 use Rattle.plan.specs.Losses.{Losses}
 use Rattle.plan.specs.Basic.{basic_premium}
@@ -9,8 +8,7 @@ use Rattle.plan.specs.Premium.{Terms, terms_of}
 use Rattle.plan.specs.Questions.{balance_questions, first_no}
 use Rattle.plan.specs.Calls.{Answer, refused, given, answer}
 use Rattle.plan.proofs.Questions.{goes_on, stops, answered}
-use Rattle.group.specs.Values.{losses_of}
-use Rattle.group.specs.declared.Losses as group
+use Rattle.steps.proofs.Sums.{of-slice}
 use Rattle.steps.proofs.Group.{basic-bounds, basic_are, terms-are}
 use Rattle.steps.proofs.balance.balance.Goals as goal
 
@@ -27,10 +25,6 @@ module _ (h : plan.Header) (rs : List Losses) where
   terms n = sym (answered (terms_of h rs) (goes_on 12 [] n))
 
 -- ---- the goals
-
--- what limited losses come to by f, where they are passed as a slice
-of-slice : (f : Losses → ℕ) {xs ys : List group.Losses} {v : ℕ} → v ≡ sum_of f (losses_of xs) → xs ≡ ys → v ≡ sum_of f (losses_of ys)
-of-slice f {v = v} e is = subst (λ (l : List group.Losses). v ≡ sum_of f (losses_of l)) is e
 
 pub basic_of-requires : goal.basic_of-requires
 basic_of-requires c =
