@@ -1,12 +1,7 @@
 -- What Rate answers, from what the gate of questions 1 to 12 gives. The bills that the code puts are step 6's of the file's group,
 -- since its terms and each A are the file's; so the call says what document 01 says, and demand 3 holds of it. Assumes nothing.
-use mathlib.Core.Path.{◌≡◌, sym, ap, ◌∙◌, subst, subst₂}
-use mathlib.Core.Bool.{Bool}
-use mathlib.Core.List.{List, [], ◌∷◌}
-use Prim.Native.Nat.{ℕ, ◌*◌, ◌≤◌}
-use native.Mathlib.Omega.{arith}
+use Rattle.std.proofs.Common.{◌≡◌, sym, ap, ◌∙◌, subst, subst₂, Bool, List, [], ◌∷◌, ℕ, ◌*◌, ◌≤◌, length, arith, Ok, Err}
 use borrow.Author.Tests.{le-leb}
-use lib.ListN.{length}
 use Rattle.plan.specs.Arithmetic.{sum}
 use Rattle.plan.specs.Field.{slots, bytes_of}
 use Rattle.plan.specs.Header.{header_of, risk_count}
@@ -18,15 +13,15 @@ use Rattle.plan.specs.Questions.{Verdict, failed, first_no, or_else, rating_ques
 use Rattle.plan.specs.Calls.{Answer, given, answer, giving, filled, buffer_after, Rated, rated_of, rate, premium_bytes, rate_buffer}
 use Rattle.plan.proofs.Questions.{after-gate, answered}
 use Rattle.plan.proofs.Demand3.{demand3}
-use Rattle.group.specs.Values.{LossesAre}
+use Rattle.group.specs.Refusals.{number_of, answer_is}
+use Rattle.group.specs.Values.{losses_is, LossesAre}
+use Rattle.group.specs.declared.Refusal.{Refusal}
 use Rattle.group.specs.declared.GroupLosses.{GroupLosses}
-use Rattle.steps.specs.Terms.{balanced_is}
+use Rattle.steps.specs.Terms.{terms_is}
 use Rattle.steps.specs.declared.bill.Terms.{Terms}
-use Rattle.steps.specs.declared.balance.Balanced.TheVariants as balanced
 use Rattle.gates.proofs.Given.{passes, terms-are, risk-count, bills-are}
 use Rattle.rating.specs.Bills.{bills_of}
 use Rattle.rating.specs.Rates.{figures_of, RateSays}
-use Rattle.rating.specs.declared.rates.Rated.TheVariants as answers
 
 -- ---- the verdict, and a refusal
 
@@ -39,9 +34,9 @@ module _ (s old : List ℕ) where
       ∙ ap (λ (b : Bool). or_else v (first_no (question13 b ∷ []))) f
 
   -- a refusal leaves all as it was
-  pub refused_says : {k : ℕ} → first_no (rate_questions s (length old)) ≡ failed k → RateSays s old (answers.Refused k) old
+  pub refused_says : (r : Refusal) → first_no (rate_questions s (length old)) ≡ failed (number_of r) → RateSays s old (Err r) old
   unfolding rate
-  refused_says e =
+  refused_says r e =
       let a = answered (rated_of (header_of s) (losses_in s)) e in
       record {
         answer = sym (ap (giving figures_of) a);
@@ -51,9 +46,9 @@ module _ (s old : List ℕ) where
 -- ---- what a rated file's call says
 
 module _ (s : List ℕ) {t : Terms}
-    (gave : balanced_is (balanced.Given t) ≡ answer (first_no (rating_questions s)) (terms_of (header_of s) (losses_in s)))
+    (gave : answer_is terms_is (Ok t) ≡ answer (first_no (rating_questions s)) (terms_of (header_of s) (losses_in s)))
     {g : GroupLosses} (losses : LossesAre (losses_in s) g) (old new : List ℕ) {billed : ℕ} (room : 4 * t.risks ≤ length old)
-    (summed : billed ≡ sum (bills_of t g.limiteds)) (put : new ≡ filled (bytes_of (slots 32 (bills_of t g.limiteds))) old) where
+    (summed : billed ≡ sum (bills_of t (losses_is g))) (put : new ≡ filled (bytes_of (slots 32 (bills_of t (losses_is g)))) old) where
   is-given : rate s (length old) ≡ given (rated_of (header_of s) (losses_in s))
   unfolding rate
   is-given =
@@ -70,7 +65,7 @@ module _ (s : List ℕ) {t : Terms}
       ∙ sym (ap (λ (a : Answer Rated). buffer_after premium_bytes a old) is-given)
 
   pub given-says : RateSays s old
-      (answers.Given (record { risks = t.risks; basic = t.basic; excess = t.excess; billed = billed })) new
+      (Ok (record { risks = t.risks; basic = t.basic; excess = t.excess; billed = billed })) new
   unfolding rated_of
   given-says = record {
     answer =

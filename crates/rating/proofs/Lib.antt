@@ -1,3 +1,3 @@
--- Laws that the proofs of several functions cite.
+-- Laws of the loop that puts the bills and of Rate's answer, which functions' proofs cite.
 mod Billing
 mod Answers

@@ -1,37 +1,43 @@
 -- A turn puts the next bill, 32 bits from a byte's start on, and adds it to the sum.
-use Rattle.std.proofs.Common.{sym, subst, ℕ, arith}
+use Rattle.std.proofs.Common.{◌∙◌, arith, get_or}
 use Rattle.plan.proofs.Fields.{Bytes}
-use Rattle.bits.specs.Put.{Room}
 use Rattle.bits.proofs.Runs.{room}
-use Rattle.rating.proofs.Billing.{billing-starts, next-put, billing-more, bills-summed, bills-put}
+use Rattle.group.specs.Values.{losses_of}
+use Rattle.rating.proofs.Billing.{counted, bill-at, fits, billing-starts, next-put, billing-more, bills-summed, bills-put}
 use Rattle.rating.proofs.rates.put_bills.Goals as goal
 
-pub loop-i-init : goal.loop-i-init
-loop-i-init c =
+pub loop-risk-init : goal.loop-risk-init
+loop-risk-init c =
     let bytes : Bytes c.args.out.now = λ i. omega (arith, c.type_inv.out i) in
-    (billing-starts c.args.limiteds.now c.args.out.now c.requires, bytes, bytes)
+    record { billing = billing-starts _ c.args.out.now c.requires; bytes = bytes; first = bytes }
 
 pub put_bytes-place-requires : goal.put_bytes-place-requires
 put_bytes-place-requires c =
-    let l = c.loop-i in
-    let space = (next-put c.args.limiteds.now c.args.out.now c.requires l.invariant.0 c.loop-i-test.true).space in (
-      subst (λ (v : ℕ). Room l.out l.place.at 32 v) (sym c.bill_at-bill.ensures) (room space (omega arith)),
-      l.invariant.0.whole,
-    )
+    let w = c.loop-risk.invariant.billing in
+    let h = c.loop-risk-test.true in
+    let e = c.bill_of-bill.ensures ∙ bill-at c.args.terms c.args.losses.now c.loop-risk.risk-index _ h in
+    (room (next-put _ c.args.out.now c.requires w (omega (arith, h, counted c.args.losses.now)) e).space (omega arith), w.whole)
 
-pub loop-i-preserved : goal.loop-i-preserved
-loop-i-preserved c = (
-  billing-more c.args.limiteds.now c.args.out.now c.requires c.loop-i.invariant.0 c.loop-i-test.true
-      c.bill_at-bill.ensures (c.put_bytes-place.ensures.next, c.put_bytes-place.ensures.put),
-  λ i. omega (arith, c.type_inv.out i),
-  c.loop-i.invariant.2,
-)
+pub loop-risk-preserved : goal.loop-risk-preserved
+loop-risk-preserved c =
+    let w = c.loop-risk.invariant.billing in
+    let h = c.loop-risk-test.true in
+    let e = c.bill_of-bill.ensures ∙ bill-at c.args.terms c.args.losses.now c.loop-risk.risk-index _ h in
+    record {
+      billing =
+          billing-more _ c.args.out.now c.requires w (omega (arith, h, counted c.args.losses.now)) e
+          (omega (arith, c.bill_of-bill.ensures, fits (losses_of c.args.losses.now) c.args.out.now c.requires (get_or c.args.losses.now c.loop-risk.risk-index (record { total = 0; limited = 0 })).limited))
+          (c.put_bytes-place.ensures.next, c.put_bytes-place.ensures.put);
+      bytes = λ i. omega (arith, c.type_inv.out i);
+      first = c.loop-risk.invariant.first;
+    }
 
 pub returns-clause-summed : goal.returns-clause-summed
 returns-clause-summed c =
-    bills-summed c.args.limiteds.now c.args.out.now c.requires c.loop-i.invariant.0 c.loop-i-test.false
+    bills-summed _ c.args.out.now c.requires c.loop-risk.invariant.billing
+    (omega (arith, c.loop-risk-test.false, counted c.args.losses.now))
 
 pub returns-clause-put : goal.returns-clause-put
 returns-clause-put c =
-    bills-put c.args.limiteds.now c.args.out.now c.requires c.loop-i.invariant.0 c.loop-i-test.false
-    c.loop-i.invariant.2 c.loop-i.invariant.1
+    bills-put _ c.args.out.now c.requires c.loop-risk.invariant.billing
+    (omega (arith, c.loop-risk-test.false, counted c.args.losses.now)) c.loop-risk.invariant.first c.loop-risk.invariant.bytes
