@@ -1,2 +1,2 @@
--- Laws for the calls that go on from a gate.
+-- Laws of what the gates give, which the proofs of the crates above cite.
 pub mod Given

@@ -5,7 +5,8 @@ use Rattle.plan.specs.Header.{header_of, header_bits, edition_of, risk_count}
 use Rattle.plan.specs.File.{counts_of}
 use Rattle.plan.specs.Losses.{losses_in}
 use Rattle.plan.specs.Questions.{Question, first_no}
-use Rattle.group.specs.Values.{header_is, verdict_is, LossesAre}
+use Rattle.group.specs.Refusals.{verdict_is}
+use Rattle.group.specs.Values.{header_is, LossesAre}
 use Rattle.groupfile.specs.declared.opening.RiskRun.{RiskRun}
 use Rattle.groupfile.specs.declared.opening.Opened.{Opened}
 use Rattle.groupfile.specs.declared.opening.Outline.{Outline}

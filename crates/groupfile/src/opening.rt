@@ -4,13 +4,13 @@ ghost use Rattle.std.specs.Prelude.{◌≡◌};
 ghost use Rattle.plan.specs.Accidents.{all_open};
 ghost use Rattle.plan.specs.File.{risks_of, end_of};
 ghost use Rattle.plan.specs.Questions.{first_no, end_questions, file_questions};
-ghost use Rattle.group.specs.Values.{verdict_is};
+ghost use Rattle.group.specs.Refusals.{verdict_is};
 ghost use Rattle.header.specs.Header.{FileHeaderIs};
 ghost use Rattle.groupfile.specs.Opening.{OpenedIs, OutlineIs};
 
 use bits::BitPlace;
 use counts::count_claims;
-use group::{GroupLosses, Header, Verdict};
+use group::{GroupLosses, Header, Refusal};
 use header::{FileHeader, header_of, header_verdict, known_edition};
 use walking::walk;
 
@@ -29,7 +29,7 @@ pub struct RiskRun {
 // What questions come to, and what a file has whatever they come to: the header values, its risks, and the losses.
 #[derive(Drop)]
 pub struct Opened {
-    pub verdict: Verdict,
+    pub verdict: Result<(), Refusal>,
     pub header: Header,
     pub run: RiskRun,
     pub losses: GroupLosses,
@@ -38,51 +38,48 @@ pub struct Opened {
 // The same without the losses, and n in their place.
 #[derive(Clone, Copy)]
 pub struct Outline {
-    pub verdict: Verdict,
+    pub verdict: Result<(), Refusal>,
     pub header: Header,
     pub risks: u32,
     pub run: RiskRun,
 }
 
 // Questions 8, 9 and 19 of a file whose last field ends at a place; `opened` is whether each risk's first claim opens an accident.
-fn end_verdict(file: &[u8], end: BitPlace, opened: bool) -> Verdict
+fn end_verdict(file: &[u8], end: BitPlace, opened: bool) -> Result<(), Refusal>
     requires { (end.at ≡ end_of file.now) × (opened ≡ all_open (risks_of file.now)) }
     ensures { verdict_is result ≡ first_no (end_questions file.now) }
 {
     if file.len() != (end.at + 7) / 8 {
-        return Verdict::Failed(8);
+        return Err(Refusal::Length);
     }
     let width = 8 * file.len() - end.at;
     let fill = end.take(file, width as u32);
     if fill.value != 0 {
-        return Verdict::Failed(9);
+        return Err(Refusal::Fill);
     }
     if !opened {
-        return Verdict::Failed(19);
+        return Err(Refusal::FirstJoined);
     }
-    Verdict::Passed
+    Ok(())
 }
 
 // Questions 1 to 9 and 19 of a file with this header, whose last field ends at a place.
-fn file_verdict(file: &[u8], header: FileHeader, end: BitPlace, opened: bool) -> Verdict
+fn file_verdict(file: &[u8], header: FileHeader, end: BitPlace, opened: bool) -> Result<(), Refusal>
     requires file_header_is { FileHeaderIs file.now header }
     requires at_value { (end.at ≡ end_of file.now) × (opened ≡ all_open (risks_of file.now)) }
     ensures { verdict_is result ≡ first_no (file_questions file.now) }
 {
     if file.len() < HEADER_BYTES {
-        return Verdict::Failed(1);
+        return Err(Refusal::NoHeader);
     }
     if !known_edition(header.edition) {
-        return Verdict::Failed(2);
+        return Err(Refusal::Edition);
     }
     if header.spare != 0 {
-        return Verdict::Failed(2);
+        return Err(Refusal::Edition);
     }
-    let values = header.values;
-    match header_verdict(values, header.risks as usize) {
-        Verdict::Failed(k) => Verdict::Failed(k),
-        Verdict::Passed => end_verdict(file, end, opened),
-    }
+    header_verdict(header.values, header.risks as usize)?;
+    end_verdict(file, end, opened)
 }
 
 // Opens a file of whatever bytes.
@@ -94,17 +91,15 @@ pub fn open(file: &[u8]) -> Opened
     let first = header.next;
     let edition = header.edition;
     let walked = walk(file, first, header.risks, edition, values.loss_limit);
-    let verdict = file_verdict(file, header, walked.end, walked.opened);
-    let losses = walked.losses;
     Opened {
-        verdict,
+        verdict: file_verdict(file, header, walked.end, walked.opened),
         header: values,
         run: RiskRun {
             edition,
             first,
             claims: walked.claims,
         },
-        losses,
+        losses: walked.losses,
     }
 }
 
@@ -114,15 +109,13 @@ pub fn open_outline(file: &[u8]) -> Outline
     ensures { OutlineIs (file_questions file.now) file.now result }
 {
     let header = header_of(file);
-    let values = header.values;
     let first = header.next;
     let edition = header.edition;
     let risks = header.risks;
     let counted = count_claims(file, first, risks, edition);
-    let verdict = file_verdict(file, header, counted.end, counted.opened);
     Outline {
-        verdict,
-        header: values,
+        verdict: file_verdict(file, header, counted.end, counted.opened),
+        header: header.values,
         risks,
         run: RiskRun {
             edition,

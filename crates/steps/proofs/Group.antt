@@ -1,41 +1,34 @@
--- The numbers that the code has of a group are the group's: what the first n limited losses have above LG and
--- lack below LH is SX and SS, so the basic premium of these numbers is M, within the bounds in which the code
--- computes it. Assumes nothing.
-use mathlib.Core.Path.{◌≡◌, ap, ◌∙◌, subst}
-use Prim.Native.Nat.{ℕ, ◌*◌, ◌-◌}
-use native.Mathlib.Omega.{arith}
-use lib.IntN.{pos}
-use lib.ListN.{take}
+-- The numbers that the code has of a group are the group's: what its limited losses have above LG and lack below LH is SX and SS, so
+-- the basic premium of these numbers is M, within the bounds in which the code computes it. Assumes nothing.
+use Rattle.std.proofs.Common.{◌≡◌, ap, ◌∙◌, ℕ, ◌*◌, ◌-◌, length, arith}
+use Rattle.std.proofs.Math.IntN.{pos}
 use Rattle.plan.specs.Arithmetic.{sum_of, above, below}
 use Rattle.plan.specs.Losses.{Losses}
 use Rattle.plan.specs.Ratable.{SX, SS}
 use Rattle.plan.specs.Basic.{basic_of, basic_premium, excess_charge}
 use Rattle.plan.specs.Premium.{terms_of}
-use Rattle.plan.proofs.Sums.{sum-map, sum-ext}
+use Rattle.plan.proofs.Sums.{sum-ext}
 use Rattle.plan.proofs.GroupSizes.{SA-le, SX-le, SS-le}
 use Rattle.group.specs.Values.{header_is, losses_is, GroupIs}
 use Rattle.group.specs.declared.Header.{Header}
 use Rattle.group.specs.declared.GroupLosses.{GroupLosses}
-use Rattle.group.proofs.Losses.{limiteds_are}
-use Rattle.steps.specs.Spread.{SpreadIs}
-use Rattle.steps.specs.Basic.{BasicBounds, basic_is}
+use Rattle.group.proofs.Group.{risks}
+use Rattle.steps.specs.Basic.{BasicBounds}
 use Rattle.steps.specs.Terms.{terms_is}
 use Rattle.steps.specs.Marks.{MarksAre}
-use Rattle.steps.specs.declared.spread.Spread.{Spread}
-use Rattle.steps.specs.declared.basic.Basic.{Basic}
 use Rattle.steps.specs.declared.balance.MarkDollars.{MarkDollars}
 
-module _ {h : Header} {g : GroupLosses} (b : GroupIs h g) where
-  -- a sum over the first n limited losses is one over the losses
-  pub limiteds-sum : (f : ℕ → ℕ)
-      → sum_of f (take g.risks g.limiteds) ≡ sum_of (λ r. f r.limited) (losses_is g)
-  limiteds-sum f = ap (sum_of f) (limiteds_are b.losses) ∙ sum-map f (λ (r : Losses). r.limited) (losses_is g)
+-- n risks, and LG and LH of their group
+module _ {h : Header} {g : GroupLosses} (b : GroupIs h g) {n : ℕ} (count : n ≡ length g.of_risks.items)
+    {m : MarkDollars} (marks : MarksAre (header_is h) (losses_is g) m) where
+  n_is : n ≡ length (losses_is g)
+  n_is = count ∙ risks b.losses
 
   -- the terms, once M is known
-  pub terms-are : {m : MarkDollars} {basic excess : ℕ} → MarksAre (header_is h) (losses_is g) m
-      → pos basic ≡ basic_premium (header_is h) (losses_is g) → excess ≡ h.conversion * (g.total - g.limited)
+  pub terms-are : {basic excess : ℕ} → pos basic ≡ basic_premium (header_is h) (losses_is g)
+      → excess ≡ h.conversion * (g.total - g.limited)
       → terms_is (record {
-        risks = g.risks;
+        risks = n;
         conversion = h.conversion;
         tax = h.tax;
         basic = basic;
@@ -45,10 +38,10 @@ module _ {h : Header} {g : GroupLosses} (b : GroupIs h g) where
       })
       ≡ terms_of (header_is h) (losses_is g)
   unfolding excess_charge
-  terms-are marks is q =
+  terms-are is q =
       let charge = q ∙ (λ i. h.conversion * (b.losses.total i - b.losses.limited i)) in
       λ i. record {
-        risks = b.losses.risks i;
+        risks = n_is i;
         conversion = h.conversion;
         tax = h.tax;
         basic = is i;
@@ -57,30 +50,28 @@ module _ {h : Header} {g : GroupLosses} (b : GroupIs h g) where
         maximum = marks.maximum i;
       }
 
-  module _ {m : MarkDollars} (marks : MarksAre (header_is h) (losses_is g) m) {s : Spread}
-      (spread : SpreadIs (take g.risks g.limiteds) 1 m.maximum m.minimum s) where
-    above_is : s.above ≡ SX (header_is h) (losses_is g)
+  module _ {sx ss : ℕ} (sx_is : sx ≡ sum_of (λ r. above (1 * r.limited) m.maximum) (losses_is g))
+      (ss_is : ss ≡ sum_of (λ r. below (1 * r.limited) m.minimum) (losses_is g)) where
+    above_is : sx ≡ SX (header_is h) (losses_is g)
     unfolding SX
     above_is =
-        spread.above_is
-        ∙ limiteds-sum _
+        sx_is
         ∙ sum-ext _ (λ r. above r.limited m.maximum) (λ r. omega arith) (losses_is g)
         ∙ ap (λ (x : ℕ). sum_of (λ (r : Losses). above r.limited x) (losses_is g)) marks.maximum
 
-    below_is : s.below ≡ SS (header_is h) (losses_is g)
+    below_is : ss ≡ SS (header_is h) (losses_is g)
     unfolding SS
     below_is =
-        spread.below_is
-        ∙ limiteds-sum _
+        ss_is
         ∙ sum-ext _ (λ r. below r.limited m.minimum) (λ r. omega arith) (losses_is g)
         ∙ ap (λ (x : ℕ). sum_of (λ (r : Losses). below r.limited x) (losses_is g)) marks.minimum
 
-    pub basic-bounds : BasicBounds g.risks h.expense h.conversion g.total s.above s.below
+    pub basic-bounds : BasicBounds n h.expense h.conversion g.total sx ss
     basic-bounds =
         let p = header_is h in
         let rs = losses_is g in
         record {
-          risks = omega (arith, b.losses.risks, b.bounds.risks);
+          risks = omega (arith, n_is, b.bounds.risks);
           expense = b.bounds.expense;
           conversion = b.bounds.sound.conversion;
           conversion_most = b.bounds.sound.conversion_most;
@@ -89,13 +80,7 @@ module _ {h : Header} {g : GroupLosses} (b : GroupIs h g) where
           made_up = omega (arith, below_is, SS-le p rs b.bounds, b.bounds.risks);
         }
 
-    -- M, as the code has it and then as the match finds it
-    pub basic_after : {r found : Basic}
-        → basic_is r (basic_of g.risks h.expense h.conversion g.total s.above s.below) → r ≡ found
-        → basic_is found (basic_premium (header_is h) (losses_is g))
+    -- the basic premium of these numbers is M
+    pub basic_are : basic_of n h.expense h.conversion g.total sx ss ≡ basic_premium (header_is h) (losses_is g)
     unfolding basic_premium
-    basic_after w e =
-        subst (λ x. x)
-        (λ i. basic_is (e i)
-        (basic_of (b.losses.risks i) h.expense h.conversion (b.losses.total i) (above_is i) (below_is i)))
-        w
+    basic_are = λ i. basic_of (n_is i) h.expense h.conversion (b.losses.total i) (above_is i) (below_is i)

@@ -1,3 +1,3 @@
--- Laws of a loop that sums and of a group's numbers, which the functions' proofs cite.
-pub mod Adding
+-- Laws of a group's numbers and of sums over its losses, which the functions' proofs cite.
+pub mod Sums
 pub mod Group

@@ -1,10 +1,8 @@
 -- M and Q: the bounds within which they are computed, and M as the code has it.
-use Rattle.std.specs.Prelude.{◌≡◌, false, ℕ, ◌*◌, ◌^◌, ◌≤◌, ◌<◌, ℤ, pos}
+use Rattle.std.specs.Prelude.{◌≡◌, false, ℕ, ◌*◌, ◌^◌, ◌≤◌, ◌<◌, ℤ, pos, Option, Some, None}
 use Rattle.std.specs.Int.Signed.{non_neg}
 use Rattle.plan.specs.Header.{expense_field}
 use Rattle.plan.specs.Sizes.{most_risks, most_group_losses, most_dollars}
-use Rattle.steps.specs.declared.basic.Basic.{Basic}
-use Rattle.steps.specs.declared.basic.Basic.TheVariants.{Amount, Negative}
 
 pub record BasicBounds (n e c sl sx ss : ℕ) : Type 0 where
   pub risks : n ≤ most_risks
@@ -16,9 +14,9 @@ pub record BasicBounds (n e c sl sx ss : ℕ) : Type 0 where
   pub made_up : ss ≤ most_dollars * most_risks
 
 -- the code's amount is the whole number z, or z is negative
-abbrev pub basic_is : Basic → ℤ → Type 0
-basic_is (Amount m) z = pos m ≡ z
-basic_is Negative z = non_neg z ≡ false
+abbrev pub basic_is : Option ℕ → ℤ → Type 0
+basic_is (Some m) z = pos m ≡ z
+basic_is None z = non_neg z ≡ false
 
 pub record ExcessBounds (c total limited : ℕ) : Type 0 where
   pub conversion_most : c ≤ 2000

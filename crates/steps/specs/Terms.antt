@@ -1,10 +1,7 @@
--- The code's terms as document 01's: what the bills of a group share, or the question that failed.
+-- The code's terms as document 01's: what the bills of a group share.
 use Rattle.std.specs.Prelude.{pos}
 use Rattle.plan.specs.Premium as plan
-use Rattle.plan.specs.Calls.{Answer, refused, given}
 use Rattle.steps.specs.declared.bill.Terms.{Terms}
-use Rattle.steps.specs.declared.balance.Balanced.{Balanced}
-use Rattle.steps.specs.declared.balance.Balanced.TheVariants.{Given, Refused}
 
 abbrev pub terms_is : Terms → plan.Terms
 terms_is t = record {
@@ -16,7 +13,3 @@ terms_is t = record {
   minimum = t.minimum;
   maximum = t.maximum;
 }
-
-abbrev pub balanced_is : Balanced → Answer plan.Terms
-balanced_is (Given t) = given (terms_is t)
-balanced_is (Refused k) = refused k

@@ -5,14 +5,15 @@ ghost use Rattle.plan.specs.Questions.{first_no, balance_questions};
 ghost use Rattle.plan.specs.Calls.{answer};
 ghost use Rattle.plan.specs.Premium.{terms_of};
 ghost use Rattle.marks.specs.Measures.{mark_is};
+ghost use Rattle.group.specs.Refusals.{answer_is};
 ghost use Rattle.group.specs.Values.{header_is, losses_is, GroupIs};
-ghost use Rattle.steps.specs.Terms.{balanced_is};
+ghost use Rattle.steps.specs.Terms.{terms_is};
 ghost use Rattle.steps.specs.Marks.{MarkBounds, MarksAre};
 
-use crate::basic::{Basic, basic_of, excess_of};
+use crate::basic::{basic_of, excess_of};
 use crate::bill::Terms;
-use crate::spread::spread_of;
-use group::{GroupLosses, Header};
+use crate::spread::{above_in_all, below_in_all};
+use group::{GroupLosses, Header, Refusal};
 use marks::{Mark, mark_of};
 
 // LG and LH.
@@ -20,13 +21,6 @@ use marks::{Mark, mark_of};
 pub(crate) struct MarkDollars {
     pub maximum: u32,
     pub minimum: u32,
-}
-
-// The terms, or the number of the question that failed.
-#[derive(Clone, Copy)]
-pub enum Balanced {
-    Given(Terms),
-    Refused(u32),
 }
 
 // Step 2: a mark's whole dollars, rounded down, by the measure that it is.
@@ -41,49 +35,41 @@ fn dollars_of(mark: Mark, standard_premium: u32, risks: u32, limited: u64) -> u3
 }
 
 // Step 2 of a group: LG comes from the maximum mark, LH from the minimum.
-fn marks_of(h: Header, losses: GroupLosses) -> MarkDollars
-    requires { GroupIs h losses }
-    ensures { MarksAre (header_is h) (losses_is losses) result }
+fn marks_of(h: Header, losses: &GroupLosses) -> MarkDollars
+    requires { GroupIs h losses.now }
+    ensures { MarksAre (header_is h) (losses_is losses.now) result }
 {
+    let risks = losses.risks();
     let highest = mark_of(h.mark_kind, h.maximum_mark);
-    let maximum = dollars_of(highest, h.standard_premium, losses.risks, losses.limited);
+    let maximum = dollars_of(highest, h.standard_premium, risks, losses.limited);
     let lowest = mark_of(h.mark_kind, h.minimum_mark);
-    let minimum = dollars_of(lowest, h.standard_premium, losses.risks, losses.limited);
+    let minimum = dollars_of(lowest, h.standard_premium, risks, losses.limited);
     MarkDollars { maximum, minimum }
 }
 
 // Steps 2 to 5, and question 12.
-pub fn balance(h: Header, losses: GroupLosses) -> Balanced
-    requires { GroupIs h losses }
-    ensures { balanced_is result
-        ≡ answer (first_no (balance_questions (header_is h) (losses_is losses))) (terms_of (header_is h) (losses_is losses)) }
+pub fn balance(h: Header, losses: &GroupLosses) -> Result<Terms, Refusal>
+    requires { GroupIs h losses.now }
+    ensures { answer_is terms_is result
+        ≡ answer (first_no (balance_questions (header_is h) (losses_is losses.now))) (terms_of (header_is h) (losses_is losses.now)) }
 {
     let marks = marks_of(h, losses);
-    let maximum = marks.maximum;
-    let minimum = marks.minimum;
-    let limiteds = losses.limiteds;
-    let spread = spread_of(&limiteds, losses.risks, 1, maximum as u64, minimum as u64);
+    let risks = losses.risks();
+    let above = above_in_all(&losses.of_risks, 1, marks.maximum as u64);
+    let below = below_in_all(&losses.of_risks, 1, marks.minimum as u64);
+    let n = risks as u64;
     let c = h.conversion as u64;
-    match basic_of(
-        losses.risks as u64,
-        h.expense as u64,
-        c,
-        losses.total,
-        spread.above,
-        spread.below,
-    ) {
-        Basic::Negative => Balanced::Refused(12),
-        Basic::Amount(basic) => {
-            let excess = excess_of(c, losses.total, losses.limited);
-            Balanced::Given(Terms {
-                risks: losses.risks,
-                conversion: h.conversion,
-                tax: h.tax,
-                basic,
-                excess,
-                minimum,
-                maximum,
-            })
-        }
-    }
+    let Some(basic) = basic_of(n, h.expense as u64, c, losses.total, above, below) else {
+        return Err(Refusal::NegativeBasic);
+    };
+    let excess = excess_of(c, losses.total, losses.limited);
+    Ok(Terms {
+        risks,
+        conversion: h.conversion,
+        tax: h.tax,
+        basic,
+        excess,
+        minimum: marks.minimum,
+        maximum: marks.maximum,
+    })
 }

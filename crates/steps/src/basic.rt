@@ -4,25 +4,14 @@ ghost use Rattle.std.specs.Prelude.{◌≡◌};
 ghost use Rattle.plan.specs.Basic.{basic_of, excess_of};
 ghost use Rattle.steps.specs.Basic.{BasicBounds, basic_is, ExcessBounds};
 
-// The basic premium where it is at least 0.
-#[derive(Clone, Copy)]
-pub(crate) enum Basic {
-    Amount(u64),
-    Negative,
-}
-
-// Step 4: M by what is added and what is taken away, so that no signed number is needed.
-pub(crate) fn basic_of(n: u64, e: u64, c: u64, sl: u64, sx: u64, ss: u64) -> Basic
+// Step 4: M where it is at least 0, by what is added and what is taken away, so that no signed number is needed.
+pub(crate) fn basic_of(n: u64, e: u64, c: u64, sl: u64, sx: u64, ss: u64) -> Option<u64>
     requires { BasicBounds n e c sl sx ss }
     ensures { basic_is result (basic_of n e c sl sx ss) }
 {
     let added = 1000 * n * e + c * sx;
     let taken = (c - 1000) * sl + c * ss;
-    if added < taken {
-        Basic::Negative
-    } else {
-        Basic::Amount(added - taken)
-    }
+    added.checked_sub(taken)
 }
 
 // Step 5: Q = c × (SL − SA).

@@ -1,5 +1,5 @@
 // Step 6: the bill of one risk, by the terms that the bills of its group share.
-ghost use Rattle.std.specs.Prelude.{◌≡◌, ◌<◌, length, get_or};
+ghost use Rattle.std.specs.Prelude.{◌≡◌};
 ghost use Rattle.plan.specs.Bounds.{TermsBounds};
 ghost use Rattle.plan.specs.Premium.{bill_with};
 ghost use Rattle.plan.specs.Ratable.{clamp};
@@ -25,12 +25,11 @@ pub struct Terms {
 pub fn ratable_of(limited: u32, minimum: u32, maximum: u32) -> u32
     ensures { result ≡ clamp minimum maximum limited }
 {
-    let raised = if limited < minimum { minimum } else { limited };
-    if raised > maximum { maximum } else { raised }
+    limited.max(minimum).min(maximum)
 }
 
 // The bill of a risk by its limited losses: T × (M + Q + n × c × K) ÷ (10,000,000 × n) to the nearest dollar.
-fn bill_of(terms: Terms, limited: u32) -> u32
+pub fn bill_of(terms: Terms, limited: u32) -> u32
     requires { TermsBounds (terms_is terms) }
     ensures { result ≡ bill_with (terms_is terms) limited }
 {
@@ -39,12 +38,4 @@ fn bill_of(terms: Terms, limited: u32) -> u32
     let shared = terms.basic + terms.excess;
     let numerator = terms.tax as u64 * (shared + n * terms.conversion as u64 * k);
     ((numerator + PREMIUM_SCALE / 2 * n) / (PREMIUM_SCALE * n)) as u32
-}
-
-// The bill of risk i of a group, counted from 0, by the limited losses of its risks.
-pub fn bill_at(terms: Terms, limiteds: &[u32], i: usize) -> u32
-    requires { TermsBounds (terms_is terms) × (i < length limiteds.now) }
-    ensures { result ≡ bill_with (terms_is terms) (get_or limiteds.now i 0) }
-{
-    bill_of(terms, limiteds[i])
 }

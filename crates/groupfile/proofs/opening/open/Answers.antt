@@ -1,9 +1,8 @@
 -- The walk is that of the file's own n and loss limit, from the header's end on: after the last risk its running sums are SL and
 -- SA, and it is at the file's end.
-use Rattle.std.proofs.Common.{sym, ap, ◌∙◌, subst₂, ℕ, arith}
+use Rattle.std.proofs.Common.{ap, subst₂, ℕ, arith}
 use Rattle.plan.specs.Header as plan
 use Rattle.plan.proofs.FileSizes.{risks-le}
-use Rattle.plan.proofs.Losses.{length-losses}
 use Rattle.risks.proofs.RunningSums.{total-is-all, limited-is-all}
 use Rattle.walking.specs.Walks.{WalkIs}
 use Rattle.groupfile.proofs.opening.open.Goals as goal
@@ -21,14 +20,8 @@ returns c =
     subst₂ (λ (n l : ℕ). WalkIs s n l c.walk-walked.result) e.risks (ap (λ (x : plan.Header). x.loss_limit) e.values)
     c.walk-walked.ensures in
     record {
-      verdict = c.file_verdict-verdict.ensures;
+      verdict = c.file_verdict.ensures;
       header = e.values;
       run = record { edition = e.edition; first = e.next; claims = l.sums.claims };
-      losses = record {
-        risks = l.sums.risks ∙ sym (length-losses s);
-        total = total-is-all l.sums;
-        limited = limited-is-all l.sums;
-        totals = l.totals;
-        limiteds = l.limiteds;
-      };
+      losses = record { each = l.each; total = total-is-all l.sums; limited = limited-is-all l.sums };
     }

@@ -1,7 +1,7 @@
 -- Question 12 by M's sign, and the terms where it passes, since the numbers that the code has are the group's.
-use Rattle.std.proofs.Common.{◌≡◌, refl, sym, ap, ◌∙◌, true, false, List, []}
-use Rattle.std.proofs.Math.IntN.{pos}
+use Rattle.std.proofs.Common.{◌≡◌, sym, ap, ◌∙◌, subst, true, false, List, [], ℕ}
 use Rattle.std.specs.Int.Signed.{non_neg}
+use Rattle.plan.specs.Arithmetic.{sum_of}
 use Rattle.plan.specs.Header as plan
 use Rattle.plan.specs.Losses.{Losses}
 use Rattle.plan.specs.Basic.{basic_premium}
@@ -9,9 +9,9 @@ use Rattle.plan.specs.Premium.{Terms, terms_of}
 use Rattle.plan.specs.Questions.{balance_questions, first_no}
 use Rattle.plan.specs.Calls.{Answer, refused, given, answer}
 use Rattle.plan.proofs.Questions.{goes_on, stops, answered}
-use Rattle.group.specs.Values.{header_is, losses_is}
-use Rattle.steps.specs.declared.basic.Basic.TheVariants.{Amount, Negative}
-use Rattle.steps.proofs.Group.{basic-bounds, basic_after, terms-are}
+use Rattle.group.specs.Values.{losses_of}
+use Rattle.group.specs.declared.Losses as group
+use Rattle.steps.proofs.Group.{basic-bounds, basic_are, terms-are}
 use Rattle.steps.proofs.balance.balance.Goals as goal
 
 -- ---- what 12 comes to
@@ -28,21 +28,30 @@ module _ (h : plan.Header) (rs : List Losses) where
 
 -- ---- the goals
 
+-- what limited losses come to by f, where they are passed as a slice
+of-slice : (f : Losses → ℕ) {xs ys : List group.Losses} {v : ℕ} → v ≡ sum_of f (losses_of xs) → xs ≡ ys → v ≡ sum_of f (losses_of ys)
+of-slice f {v = v} e is = subst (λ (l : List group.Losses). v ≡ sum_of f (losses_of l)) is e
+
 pub basic_of-requires : goal.basic_of-requires
-basic_of-requires c = basic-bounds c.requires c.marks_of-marks.ensures c.spread_of-spread.ensures
+basic_of-requires c =
+    basic-bounds c.requires c.risks-risks.ensures c.marks_of-marks.ensures
+    (of-slice _ c.above_in_all-above.ensures c.deref.ensures.0)
+    (of-slice _ c.below_in_all-below.ensures c.deref-2.ensures.0)
 
-pub returns-in-Negative : goal.returns-in-Negative
-returns-in-Negative c =
-    let marks = c.marks_of-marks.ensures in
-    let spread = c.spread_of-spread.ensures in
-    twelve _ _ (basic_after c.requires marks spread {r = Negative} c.in-Negative.ensures refl)
+pub returns-in_default : goal.returns-in_default
+returns-in_default c =
+    let m =
+    basic_are c.requires c.risks-risks.ensures c.marks_of-marks.ensures
+    (of-slice _ c.above_in_all-above.ensures c.deref.ensures.0)
+    (of-slice _ c.below_in_all-below.ensures c.deref-2.ensures.0) in
+    twelve _ _ (ap non_neg (sym m) ∙ c.in_default.ensures)
 
-pub returns-in-Amount : goal.returns-in-Amount
-returns-in-Amount c =
-    let m = c.in-Amount.basic in
-    let marks = c.marks_of-marks.ensures in
-    let spread = c.spread_of-spread.ensures in
-    let is : pos m ≡ basic_premium (header_is c.args.h) (losses_is c.args.losses) =
-    basic_after c.requires marks spread {r = Amount m} c.in-Amount.ensures refl in
-    ap given (terms-are c.requires marks is c.excess_of-excess.ensures)
+pub returns : goal.returns
+returns c =
+    let m =
+    basic_are c.requires c.risks-risks.ensures c.marks_of-marks.ensures
+    (of-slice _ c.above_in_all-above.ensures c.deref.ensures.0)
+    (of-slice _ c.below_in_all-below.ensures c.deref-2.ensures.0) in
+    let is = c.in-Some.ensures ∙ m in
+    ap given (terms-are c.requires c.risks-risks.ensures c.marks_of-marks.ensures is c.excess_of-excess.ensures)
     ∙ terms _ _ (ap non_neg (sym is))

@@ -4,6 +4,7 @@ use Rattle.plan.specs.Losses.{SA}
 use Rattle.plan.specs.Marks.{mark_of, dollars, LG, LH}
 use Rattle.marks.specs.Measures.{mark_is}
 use Rattle.marks.specs.declared.Mark.{Mark}
+use Rattle.group.proofs.Group.{risks}
 use Rattle.group.specs.Values.{losses_is, GroupIs}
 use Rattle.group.specs.declared.Header.{Header}
 use Rattle.group.specs.declared.GroupLosses.{GroupLosses}
@@ -12,17 +13,18 @@ use Rattle.steps.proofs.balance.marks_of.Goals as goal
 -- of a group, a mark that its kind makes of x thousandths
 dollars-are : {h : Header} {g : GroupLosses} → GroupIs h g → (m : Mark) (x : ℕ)
     → mark_is m ≡ mark_of h.mark_kind x
-    → dollars (mark_is m) h.standard_premium g.risks g.limited
+    → {n : ℕ} → n ≡ length g.of_risks.items
+    → dollars (mark_is m) h.standard_premium n g.limited
     ≡ dollars (mark_of h.mark_kind x) h.standard_premium (length (losses_is g)) (SA (losses_is g))
-dollars-are {h} b m x is = λ i. dollars (is i) h.standard_premium (b.losses.risks i) (b.losses.limited i)
+dollars-are {h} b m x is {n} e = λ i. dollars (is i) h.standard_premium ((e ∙ risks b.losses) i) (b.losses.limited i)
 
 pub returns : goal.returns
 unfolding LG LH
 returns c = record {
   maximum =
       c.dollars_of-maximum.ensures
-      ∙ dollars-are c.requires c.mark_of-highest.result _ c.mark_of-highest.ensures;
+      ∙ dollars-are c.requires c.mark_of-highest.result _ c.mark_of-highest.ensures c.risks-risks.ensures;
   minimum =
       c.dollars_of-minimum.ensures
-      ∙ dollars-are c.requires c.mark_of-lowest.result _ c.mark_of-lowest.ensures;
+      ∙ dollars-are c.requires c.mark_of-lowest.result _ c.mark_of-lowest.ensures c.risks-risks.ensures;
 }
