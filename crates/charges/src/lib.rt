@@ -6,16 +6,14 @@ ghost use Rattle.std.specs.Prelude.{◌≡◌, ◌≤◌};
 ghost use Rattle.plan.specs.Matrix.{first_column, last_column};
 ghost use Rattle.plan.specs.Charge as table;
 ghost use Rattle.plan.specs.Charge.{charge_double, last_ratio};
+ghost use Rattle.group.specs.Refusals.{answer_is};
 ghost use Rattle.charges.specs.Charges.{ChargeIs, charged_is, OnTableGiven};
 
-use matrix::row_of;
+use group::Refusal;
+use matrix::{FIRST_COLUMN, LAST_COLUMN, row_of};
 use std::num::truncating_f64_to_u64;
 
-// The columns that are carried, and the largest entry ratio that is taken, in hundredths.
-const FIRST_COLUMN: u32 = 36;
-
-const LAST_COLUMN: u32 = 52;
-
+// The largest entry ratio that is taken, in hundredths.
 const LAST_RATIO: u32 = 500;
 
 // The charge, and its whole thousandths.
@@ -25,27 +23,13 @@ pub struct TableCharge {
     pub thousandths: u32,
 }
 
-// What the call gives, or the number of the first question that failed.
-#[derive(Clone, Copy)]
-pub enum Charged {
-    Given(TableCharge),
-    Refused(u32),
-}
-
 // The charge of a column at r hundredths.
 fn unrounded(column: usize, hundredths: u32) -> f64
     requires { (first_column ≤ column) × (column ≤ last_column) }
     ensures { result ≡ charge_double column hundredths }
 {
-    let row = row_of(column);
+    let [b2, b3, b4, b5, b6, b7, b8] = row_of(column);
     let r = hundredths as f64 / 100.0;
-    let b2 = row.b2;
-    let b3 = row.b3;
-    let b4 = row.b4;
-    let b5 = row.b5;
-    let b6 = row.b6;
-    let b7 = row.b7;
-    let b8 = row.b8;
     1.0 / (1.0 + r + r * r * (b2 + r * (b3 + r * (b4 + r * (b5 + r * (b6 + r * (b7 + r * b8)))))))
 }
 
@@ -69,32 +53,22 @@ fn charge_at(column: usize, hundredths: u32) -> TableCharge
 {
     let charge = unrounded(column, hundredths);
     let n = greatest((charge + 0.0005) * 1000.0);
-    if n + 10 * hundredths < 1000 {
-        TableCharge {
-            charge,
-            thousandths: 1000 - 10 * hundredths,
-        }
-    } else {
-        TableCharge {
-            charge,
-            thousandths: n,
-        }
+    TableCharge {
+        charge,
+        thousandths: n.max(1000u32.saturating_sub(10 * hundredths)),
     }
 }
 
 // The charge of a column at an entry ratio, both in hundredths, any numbers.
-pub fn charge(column: u32, entry_ratio: u32) -> Charged
-    ensures says { charged_is result ≡ table.charge1965 column entry_ratio }
+pub fn charge(column: u32, entry_ratio: u32) -> Result<TableCharge, Refusal>
+    ensures says { answer_is charged_is result ≡ table.charge1965 column entry_ratio }
     ensures table { OnTableGiven result column entry_ratio }
 {
-    if column < FIRST_COLUMN {
-        return Charged::Refused(20);
-    }
-    if column > LAST_COLUMN {
-        return Charged::Refused(20);
+    if !(FIRST_COLUMN..=LAST_COLUMN).contains(&column) {
+        return Err(Refusal::Column);
     }
     if entry_ratio > LAST_RATIO {
-        return Charged::Refused(21);
+        return Err(Refusal::TableRatio);
     }
-    Charged::Given(charge_at(column as usize, entry_ratio))
+    Ok(charge_at(column as usize, entry_ratio))
 }

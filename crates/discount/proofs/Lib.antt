@@ -1,3 +1,2 @@
 -- Laws of the rows, which the functions' proofs cite.
 pub mod Rows
-pub mod Cutting

@@ -1,73 +1,71 @@
--- What is asked of the rows and taken by them, row by row as the loops go. Assumes nothing.
-use mathlib.Core.Path.{◌≡◌, refl, sym, ap, ◌∙◌}
-use mathlib.Core.Bool.{Bool, true, false, ◌&&◌}
-use mathlib.Core.List.{List}
-use Prim.Native.Nat.{ℕ, zero, suc, ◌+◌, ◌*◌, ◌-◌, ◌≤◌, ◌<◌, min}
-use native.Mathlib.Numerals.{add-one}
-use native.Mathlib.Omega.{arith}
-use lib.Dec.{leb}
-use lib.ListN.{get_or, drop}
+-- What is asked of the rows, and taken by them as the loop cuts a premium layer by layer: the parts taken times their rates, and what
+-- the layers to come take of what remains, are the whole sum. No rate is above 1,000, so the sum fits 32 bits at every row. Assumes nothing.
+use Rattle.std.proofs.Common.{◌≡◌, refl, sym, ap, ◌∙◌, Bool, ◌&&◌, leb, List, [], ◌∷◌, length, get_or, drop, take, ℕ, suc, ◌+◌, ◌*◌, ◌-◌, ◌/◌, ◌≤◌, ◌<◌, min, add-one, arith}
+use Rattle.std.specs.List.{list_all}
+use Rattle.std.proofs.Math.ListN.{get_or-map}
+use Rattle.std.proofs.Math.Seq.{get_or-take, drop-cons}
+use Rattle.std.proofs.lemmas.List.{length-map, drop_all}
 use Rattle.plan.specs.Discount as plan
-use Rattle.plan.specs.Discount.{discount_sum, most_rate, rates_pass, widths_pass}
-use Rattle.plan.proofs.Tests.{and-first-no}
-use Rattle.plan.proofs.Discounts as discounts
-use Rattle.discount.specs.Schedules.{no_layer, layer_at, layers_of}
+use Rattle.plan.specs.Discount.{discount_sum, discount, most_rate, rates_pass}
+use Rattle.plan.proofs.Discounts.{sum_most, discount-quotient, layer-taken}
+use Rattle.discount.specs.Schedules.{layer_is, layers_of, Discountable}
 use Rattle.discount.specs.declared.schedule.Layer.{Layer}
 
-module _ (rows : List Layer) where
-  -- the layers from row i on
-  abbrev pub from : ℕ → List plan.Layer
-  from i = drop i (layers_of rows)
+-- question 16 row by row
+pub rates_are : (rows : List Layer) → rates_pass (layers_of rows) ≡ list_all (λ r. leb r.rate most_rate) rows
+rates_are [] = refl
+rates_are (r ∷ rows) = ap (λ (b : Bool). leb r.rate most_rate && b) (rates_are rows)
 
-  abbrev none : plan.Layer
-  none = record { width = 0; rate = 0 }
+-- past the last row
+abbrev pub none : Layer
+none = record { width = 0; rate = 0 }
 
-  row_is : (i : ℕ) → i < 4 → get_or (layers_of rows) i none ≡ layer_at rows i
-  row_is zero h = refl
-  row_is (suc zero) h = refl
-  row_is (suc (suc zero)) h = refl
-  row_is (suc (suc (suc zero))) h = refl
-  row_is (suc (suc (suc (suc i)))) h = absurd (omega (arith, h))
+-- of the rows, i are passed, and `remains` of the premium is to be cut
+pub record Cutting (rows : List Layer) (premium i remains sum : ℕ) : Type 0 where
+  pub whole : sum + discount_sum (drop i (layers_of rows)) remains ≡ discount_sum (layers_of rows) premium
 
-  module _ (i : ℕ) where
-    next : from (suc i) ≡ from (i + 1)
-    next = ap from (sym (add-one i))
+module _ {rows : List Layer} {premium i remains sum : ℕ} (four : length rows ≡ 4) (w : Cutting rows premium i remains sum) where
+  sum-fits : Discountable (layers_of rows) premium → discount_sum (layers_of rows) premium ≤ 4194303000
+  sum-fits d = omega (arith, sum_most (layers_of rows) d.rates premium, d.fits)
 
-    pub rate-asked : i < 4 → rates_pass (from i) ≡ leb (get_or rows i no_layer).rate most_rate && rates_pass (from (i + 1))
-    rate-asked h =
-        discounts.rate-asked (layers_of rows) i none h
-        ∙ (λ j. leb (row_is i h j).rate most_rate && rates_pass (next j))
+  -- what a row that another follows takes is added
+  module _ {part : ℕ} (h : i < 3) (e : part ≡ min remains (get_or (take 3 rows) i none).width) where
+    abbrev row : Layer
+    row = get_or (take 3 rows) i none
 
-    pub width-asked : i < 3 → widths_pass (from i) ≡ leb 1 (get_or rows i no_layer).width && widths_pass (from (i + 1))
-    width-asked h =
-        discounts.width-asked (layers_of rows) i none (omega (arith, h))
-        ∙ (λ j. leb 1 (row_is i (omega (arith, h)) j).width && widths_pass (next j))
+    layer : get_or (layers_of rows) i (layer_is none) ≡ layer_is row
+    layer = get_or-map layer_is rows i none ∙ ap layer_is (sym (get_or-take 3 rows i none h))
 
-    pub layer-taken : i < 3 → (p : ℕ)
-        → discount_sum (from i) p
-        ≡ min p (get_or rows i no_layer).width * (get_or rows i no_layer).rate
-        + discount_sum (from (i + 1)) (p - (get_or rows i no_layer).width)
-    layer-taken h p =
-        let e = row_is i (omega (arith, h)) in
-        discounts.layer-taken (layers_of rows) i none (omega (arith, h)) p
-        ∙ (λ j. min p (e j).width * (e j).rate + discount_sum (next j) (p - (e j).width))
+    followed : suc i < length (layers_of rows)
+    followed = omega (arith, length-map rows layer_is, four)
 
--- ---- a loop that asks row after row
+    taken : sum + part * row.rate + discount_sum (drop (i + 1) (layers_of rows)) (remains - part) ≡ discount_sum (layers_of rows) premium
+    taken =
+        let step = layer-taken (layers_of rows) i (layer_is none) followed remains
+        ∙ (λ j. min remains (layer j).width * (layer j).rate + discount_sum (drop (sym (add-one i) j) (layers_of rows)) (remains - (layer j).width)) in
+        let rest : remains - row.width ≡ remains - part = omega (arith, e) in
+        let most = step ∙ (λ j. sym e j * row.rate + discount_sum (drop (i + 1) (layers_of rows)) (rest j)) in
+        omega (arith, most, w.whole)
 
--- of the rows to be asked i have passed: what all come to is what those from row i on come to
-pub record Asking (all : Bool) (rest : ℕ → Bool) (limit i : ℕ) : Type 0 where
-  pub within : i ≤ limit
-  pub same : all ≡ rest i
+    pub part-most : Discountable (layers_of rows) premium → sum + part * row.rate ≤ 4194303000
+    part-most d = omega (arith, taken, sum-fits d)
 
-module _ {all : Bool} {rest : ℕ → Bool} {limit i : ℕ} (w : Asking all rest limit i) where
-  -- the first No is the result
-  pub asked-no : {b : Bool} → rest i ≡ b && rest (i + 1) → b ≡ false → false ≡ all
-  asked-no e f = sym (w.same ∙ e ∙ and-first-no (rest (i + 1)) f)
+    pub cutting-more : Cutting rows premium (i + 1) (remains - part) (sum + part * row.rate)
+    cutting-more = record { whole = taken }
 
-  -- a Yes goes on
-  pub asked-yes : {b : Bool} → i < limit → rest i ≡ b && rest (i + 1) → b ≡ true → Asking all rest limit (i + 1)
-  asked-yes h e f = record { within = omega arith; same = w.same ∙ e ∙ ap (λ (x : Bool). x && rest (i + 1)) f }
+  -- the last row takes the rest
+  module _ (last : i ≡ 3) where
+    rest-is : drop i (layers_of rows) ≡ layer_is (get_or rows 3 none) ∷ []
+    rest-is =
+        ap (λ (k : ℕ). drop k (layers_of rows)) last
+        ∙ drop-cons (layers_of rows) 3 (layer_is none) (omega (arith, length-map rows layer_is, four))
+        ∙ (λ j. get_or-map layer_is rows 3 none j ∷ drop_all 4 (layers_of rows) (omega (arith, length-map rows layer_is, four)) j)
 
-  -- all are asked
-  pub asked-all : limit ≤ i → rest limit ≡ true → true ≡ all
-  asked-all h e = let last : i ≡ limit = omega (arith, h, w.within) in sym (w.same ∙ ap rest last ∙ e)
+    last_taken : sum + remains * (get_or rows 3 none).rate ≡ discount_sum (layers_of rows) premium
+    last_taken = ap (λ (x : List plan.Layer). sum + discount_sum x remains) (sym rest-is) ∙ w.whole
+
+    pub all-most : Discountable (layers_of rows) premium → sum + remains * (get_or rows 3 none).rate ≤ 4194303000
+    all-most d = omega (arith, last_taken, sum-fits d)
+
+    pub discounted : (sum + remains * (get_or rows 3 none).rate + 500) / 1000 ≡ discount (layers_of rows) premium
+    discounted = ap (λ (x : ℕ). (x + 500) / 1000) last_taken ∙ discount-quotient (layers_of rows) premium

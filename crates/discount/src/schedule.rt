@@ -3,10 +3,10 @@ ghost use Rattle.std.specs.Prelude.{◌≡◌};
 ghost use Rattle.plan.specs.Discount.{rates_pass, widths_pass};
 ghost use Rattle.plan.specs.Comparison.{schedule_questions};
 ghost use Rattle.plan.specs.Questions.{first_no};
-ghost use Rattle.group.specs.Values.{verdict_is};
+ghost use Rattle.group.specs.Refusals.{verdict_is};
 ghost use Rattle.discount.specs.Schedules.{layers_of};
 
-use group::Verdict;
+use group::Refusal;
 
 // The layers of a schedule, and the last of them, counted from 0.
 pub(crate) const LAYERS: usize = 4;
@@ -32,45 +32,28 @@ pub struct Schedule {
 }
 
 // Question 16: no rate is above 1,000.
-fn rates_pass(layers: [Layer; LAYERS]) -> bool
-    ensures { result ≡ rates_pass (layers_of layers) }
+fn rates_pass(layers: &[Layer; LAYERS]) -> bool
+    ensures { result ≡ rates_pass (layers_of layers.now) }
 {
-    let mut i: usize = 0;
-    while i < LAYERS {
-        let layer = layers[i];
-        if layer.rate > MOST_RATE {
-            return false;
-        }
-        i += 1;
-    }
-    true
+    layers.iter().all(|layer| layer.rate <= MOST_RATE)
 }
 
 // Question 17: none of the first three widths is 0.
-fn widths_pass(layers: [Layer; LAYERS]) -> bool
-    ensures { result ≡ widths_pass (layers_of layers) }
+fn widths_pass(layers: &[Layer; LAYERS]) -> bool
+    ensures { result ≡ widths_pass (layers_of layers.now) }
 {
-    let mut i: usize = 0;
-    while i < LAST {
-        let layer = layers[i];
-        if layer.width < 1 {
-            return false;
-        }
-        i += 1;
-    }
-    true
+    layers[..LAST].iter().all(|layer| layer.width >= 1)
 }
 
 // Questions 16 and 17.
-pub fn schedule_verdict(schedule: Schedule) -> Verdict
+pub fn schedule_verdict(schedule: Schedule) -> Result<(), Refusal>
     ensures { verdict_is result ≡ first_no (schedule_questions (layers_of schedule.layers)) }
 {
-    let layers = schedule.layers;
-    if !rates_pass(layers) {
-        return Verdict::Failed(16);
+    if !rates_pass(&schedule.layers) {
+        return Err(Refusal::DiscountRate);
     }
-    if !widths_pass(layers) {
-        return Verdict::Failed(17);
+    if !widths_pass(&schedule.layers) {
+        return Err(Refusal::LayerWidth);
     }
-    Verdict::Passed
+    Ok(())
 }

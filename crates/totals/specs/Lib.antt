@@ -1,2 +1,3 @@
 -- What the functions of premiums and totals ask for and give.
+pub mod Owed
 pub mod Totals

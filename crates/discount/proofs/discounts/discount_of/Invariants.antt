@@ -1,11 +1,6 @@
--- Of the rows, i are passed, and the parts that they take are summed. The measure is the rows to come before
--- the last.
-use Rattle.std.proofs.Common.{◌-◌}
-use Rattle.discount.proofs.Cutting.{Cutting}
+-- Of the rows, so many are passed, and the parts that they take are summed.
+use Rattle.discount.proofs.Rows.{Cutting}
 use Rattle.discount.proofs.discounts.discount_of.Given as goal
 
-abbrev pub invariant-loop-i : goal.invariant-loop-i
-invariant-loop-i l = Cutting l.layers l.premium l.i l.remains l.sum
-
-abbrev pub decreases-loop-i : goal.decreases-loop-i
-decreases-loop-i l = 3 - l.i
+abbrev pub invariant-loop-layer : goal.invariant-loop-layer
+invariant-loop-layer l = Cutting l.fn.schedule.layers l.premium l.layer-index l.remains l.sum

@@ -1,9 +1,9 @@
--- n × T × (n × e + SL) fits 64 bits, and a thousand of each of its parts does.
+-- n × T × (n × e + SL) fits 64 bits.
 use Rattle.std.proofs.Common.{arith, ℕ, ◌+◌, ◌*◌, ◌≤◌}
 use Rattle.std.proofs.Math.Nat.{mul-le-mul}
 use Rattle.plan.specs.Sizes.{largest_expense}
-use Rattle.totals.specs.Totals.{OwedBounds}
-use Rattle.totals.proofs.owed_of.Goals as goal
+use Rattle.totals.specs.Owed.{OwedBounds}
+use Rattle.totals.proofs.owed.owed_of.Goals as goal
 
 owed-le : {risks tax expense total : ℕ} → OwedBounds risks tax expense total
     → risks * tax * (risks * expense + total) ≤ 5100000 * 17112744000
@@ -16,8 +16,8 @@ owed-le {risks} {tax} {expense} {total} b =
 pub overflow_mul-owed-3 : goal.overflow_mul-owed-3
 overflow_mul-owed-3 c = omega (arith, owed-le c.requires)
 
-pub overflow_mul-owed-4 : goal.overflow_mul-owed-4
-overflow_mul-owed-4 c = omega (arith, owed-le c.requires)
+pub overflow_cast-result : goal.overflow_cast-result
+overflow_cast-result c = omega (arith, owed-le c.requires)
 
-pub carried-requires : goal.carried-requires
-carried-requires c = (omega (arith, owed-le c.requires), omega arith)
+pub overflow_mul-result : goal.overflow_mul-result
+overflow_mul-result c = omega (arith, owed-le c.requires)
