@@ -1,15 +1,9 @@
 -- What the call answers, from what the gate of questions 1 to 12 gives. The bills that the code puts are step 6's of the file's
 -- group and guaranteed cost is by its own standard premium; so the call says what document 02 says, and what holds of every call
 -- that is not refused holds of it. Assumes nothing.
-use mathlib.Core.Path.{◌≡◌, refl, sym, ap, ◌∙◌, subst}
-use mathlib.Core.Bool.{true}
-use mathlib.Core.List.{List, [], ◌∷◌, ◌++◌}
-use Prim.Native.Nat.{ℕ, ◌*◌, ◌-◌, ◌≤◌}
-use native.Mathlib.Omega.{arith}
+use Rattle.std.proofs.Common.{◌≡◌, refl, sym, ap, ◌∙◌, subst, true, List, [], ◌∷◌, ◌++◌, ℕ, ◌*◌, ◌-◌, ◌≤◌, ℤ, leb, length, arith, Ok, Err}
+use Rattle.std.proofs.Math.IntN.{pos}
 use borrow.Author.Tests.{leb-true}
-use lib.Dec.{leb}
-use lib.IntN.{ℤ, pos}
-use lib.ListN.{length}
 use Rattle.plan.specs.Arithmetic.{sum, sum_z}
 use Rattle.plan.specs.Field.{slots, bytes_of}
 use Rattle.plan.specs.Header.{header_of, risk_count}
@@ -24,16 +18,16 @@ use Rattle.plan.specs.Comparison as call
 use Rattle.plan.proofs.Tests.{both}
 use Rattle.plan.proofs.Questions.{after-gate, answered, or-passed, yes-to}
 use Rattle.plan.proofs.Comparisons.{numbers_with, beside}
-use Rattle.group.specs.Values.{LossesAre}
+use Rattle.group.specs.Refusals.{number_of, answer_is}
+use Rattle.group.specs.Values.{losses_is, LossesAre}
+use Rattle.group.specs.declared.Refusal.{Refusal}
 use Rattle.group.specs.declared.GroupLosses.{GroupLosses}
-use Rattle.steps.specs.Terms.{balanced_is}
+use Rattle.steps.specs.Terms.{terms_is}
 use Rattle.steps.specs.declared.bill.Terms.{Terms}
-use Rattle.steps.specs.declared.balance.Balanced.TheVariants as balanced
 use Rattle.gates.proofs.Given.{passes, terms-are, risk-count, bills-are}
 use Rattle.rating.specs.Bills.{bills_of}
 use Rattle.guaranteed.specs.Comparisons.{parts_of, numbers_given, CompareSays}
 use Rattle.guaranteed.specs.declared.Comparison.{Comparison}
-use Rattle.guaranteed.specs.declared.Compared.TheVariants as answers
 
 -- ---- the verdict, and a refusal
 
@@ -51,10 +45,10 @@ module _ (s : List ℕ) (ls : List Layer) (old_premiums : List ℕ) (old_differe
       after-gate (rating_questions s) (thirteen ++ schedule_questions ls) e ∙ ap (or_else v) (after-gate thirteen (schedule_questions ls) refl ∙ f)
 
   -- a refusal leaves all as it was
-  pub refused_says : {k : ℕ} → first_no (compare_questions s ls (length old_premiums) (length old_differences)) ≡ failed k
-      → CompareSays s ls old_premiums old_differences (answers.Refused k) old_premiums old_differences
+  pub refused_says : (r : Refusal) → first_no (compare_questions s ls (length old_premiums) (length old_differences)) ≡ failed (number_of r)
+      → CompareSays s ls old_premiums old_differences (Err r) old_premiums old_differences
   unfolding compare
-  refused_says e =
+  refused_says r e =
       let a = answered (comparison_of ls (header_of s) (losses_in s)) e in
       record {
         answer = sym (ap (giving parts_of) a);
@@ -66,7 +60,7 @@ module _ (s : List ℕ) (ls : List Layer) (old_premiums : List ℕ) (old_differe
 
 -- questions 1 to 12 gave terms, and 13, 16 and 17 passed
 module _ (s : List ℕ) (ls : List Layer) {t : Terms}
-    (gave : balanced_is (balanced.Given t) ≡ answer (first_no (rating_questions s)) (terms_of (header_of s) (losses_in s)))
+    (gave : answer_is terms_is (Ok t) ≡ answer (first_no (rating_questions s)) (terms_of (header_of s) (losses_in s)))
     {g : GroupLosses} (losses : LossesAre (losses_in s) g) (old_premiums : List ℕ) (old_differences : List ℤ)
     (asked : last_verdict s ls old_premiums old_differences ≡ passed) where
   -- all that is given
@@ -100,18 +94,18 @@ module _ (s : List ℕ) (ls : List Layer) {t : Terms}
   -- what the code gives and leaves
   module _ (c : Comparison) (premiums : List ℕ) (differences : List ℤ)
       (risks : c.rated.risks ≡ t.risks) (basic : c.rated.basic ≡ t.basic) (excess : c.rated.excess ≡ t.excess)
-      (billed : c.rated.billed ≡ sum (bills_of t g.limiteds))
+      (billed : c.rated.billed ≡ sum (bills_of t (losses_is g)))
       (discounted : c.discount ≡ discount ls (header_of s).standard_premium)
       (less : c.guaranteed ≡ (header_of s).standard_premium - c.discount)
-      (summed : c.difference ≡ sum_z (λ z. z) (differences_of c.guaranteed (bills_of t g.limiteds)))
-      (put : premiums ≡ filled (bytes_of (slots 32 (bills_of t g.limiteds))) old_premiums)
-      (put-too : differences ≡ filled (differences_of c.guaranteed (bills_of t g.limiteds)) old_differences) where
+      (summed : c.difference ≡ sum_z (λ z. z) (differences_of c.guaranteed (bills_of t (losses_is g))))
+      (put : premiums ≡ filled (bytes_of (slots 32 (bills_of t (losses_is g)))) old_premiums)
+      (put-too : differences ≡ filled (differences_of c.guaranteed (bills_of t (losses_is g))) old_differences) where
     cost-is : c.guaranteed ≡ guaranteed_cost ls (header_of s).standard_premium
     unfolding guaranteed_cost
     cost-is = less ∙ ap (λ (x : ℕ). (header_of s).standard_premium - x) discounted
 
     -- the differences of the file's own bills
-    differences_are : differences_of c.guaranteed (bills_of t g.limiteds) ≡ all.differences
+    differences_are : differences_of c.guaranteed (bills_of t (losses_is g)) ≡ all.differences
     unfolding comparison_of
     differences_are = λ i. differences_of (cost-is i) (bills-are s gave losses i)
 
@@ -138,7 +132,7 @@ module _ (s : List ℕ) (ls : List Layer) {t : Terms}
     left-too : differences ≡ filled all.differences old_differences
     left-too = put-too ∙ ap (λ (zs : List ℤ). filled zs old_differences) differences_are
 
-    pub given-says : CompareSays s ls old_premiums old_differences (answers.Given c) premiums differences
+    pub given-says : CompareSays s ls old_premiums old_differences (Ok c) premiums differences
     given-says = record {
       answer =
           (λ i. given (record {

@@ -1,22 +1,24 @@
 -- The call's answer as document 02's, and what putting the differences asks for.
-use Rattle.std.specs.Prelude.{◌≡◌, List, ℕ, ◌≤◌, ℤ, pos, length}
+use Rattle.std.specs.Prelude.{◌≡◌, List, ℕ, ◌≤◌, ℤ, pos, length, Result, Ok, Err}
 use Rattle.plan.specs.Bounds.{TermsBounds}
 use Rattle.plan.specs.Discount.{Layer}
 use Rattle.plan.specs.Comparison as plan
 use Rattle.plan.specs.Comparison.{NumbersGiven, Beside, compare_premiums, compare_differences}
-use Rattle.plan.specs.Calls.{Answer, refused, given, giving}
+use Rattle.plan.specs.Calls.{giving}
+use Rattle.plan.specs.Losses.{Losses}
+use Rattle.plan.specs.Sizes.{most_risks}
+use Rattle.group.specs.Refusals.{answer_is}
+use Rattle.group.specs.declared.Refusal.{Refusal}
 use Rattle.rating.specs.Rates as rates
 use Rattle.steps.specs.Terms.{terms_is}
 use Rattle.steps.specs.declared.bill.Terms.{Terms}
 use Rattle.guaranteed.specs.declared.Comparison.{Comparison}
-use Rattle.guaranteed.specs.declared.Compared.{Compared}
-use Rattle.guaranteed.specs.declared.Compared.TheVariants as answers
 
--- terms by which every bill fits 32 bits, the limited losses of each risk, and room for a difference of each
-pub record Differing (t : Terms) (limiteds : List ℕ) (room : ℕ) : Type 0 where
+-- terms by which every bill fits 32 bits, and room for a difference of each risk
+pub record Differing (t : Terms) (rs : List Losses) (room : ℕ) : Type 0 where
   pub bounds : TermsBounds (terms_is t)
-  pub each : t.risks ≤ length limiteds
-  pub enough : t.risks ≤ room
+  pub few : length rs ≤ most_risks
+  pub enough : length rs ≤ room
 
 -- what the call gives beside the premiums and the differences
 pub record Parts : Type 0 where
@@ -43,15 +45,11 @@ parts_in g = record {
   difference = g.difference;
 }
 
-abbrev pub parts_are : Compared → Answer Parts
-parts_are (answers.Given g) = given (parts_in g)
-parts_are (answers.Refused k) = refused k
-
 -- a call on the file s by the schedule ls, whose buffers held `old_premiums` and `old_differences` and hold `premiums` and
 -- `differences` after it
-pub record CompareSays (s : List ℕ) (ls : List Layer) (old_premiums : List ℕ) (old_differences : List ℤ) (r : Compared)
+pub record CompareSays (s : List ℕ) (ls : List Layer) (old_premiums : List ℕ) (old_differences : List ℤ) (r : Result Comparison Refusal)
     (premiums : List ℕ) (differences : List ℤ) : Type 0 where
-  pub answer : parts_are r ≡ giving parts_of (plan.compare s ls (length old_premiums) (length old_differences))
+  pub answer : answer_is parts_in r ≡ giving parts_of (plan.compare s ls (length old_premiums) (length old_differences))
   pub premiums_after : premiums ≡ compare_premiums s ls old_premiums old_differences
   pub differences_after : differences ≡ compare_differences s ls old_premiums old_differences
 
@@ -68,6 +66,6 @@ numbers_given g = record {
 }
 
 -- what holds of a call on the file s that is not refused, which left t and u in the buffers
-abbrev pub BesideGiven : Compared → List ℕ → List ℕ → List ℤ → Type 0
-BesideGiven (answers.Given g) s t u = Beside s (numbers_given g) t u
-BesideGiven (answers.Refused k) s t u = Unit {0}
+abbrev pub BesideGiven : Result Comparison Refusal → List ℕ → List ℕ → List ℤ → Type 0
+BesideGiven (Ok g) s t u = Beside s (numbers_given g) t u
+BesideGiven (Err refusal) s t u = Unit {0}

@@ -9,18 +9,18 @@ ghost use Rattle.plan.specs.Arithmetic.{sum_z};
 ghost use Rattle.plan.specs.Calls.{filled};
 ghost use Rattle.plan.specs.Questions.{first_no, question13};
 ghost use Rattle.plan.specs.Comparison.{differences_of};
-ghost use Rattle.group.specs.Values.{verdict_is};
+ghost use Rattle.group.specs.Refusals.{verdict_is};
+ghost use Rattle.group.specs.Values.{losses_of};
 ghost use Rattle.rating.specs.Bills.{bills_of};
 ghost use Rattle.discount.specs.Schedules.{layers_of};
 ghost use Rattle.guaranteed.specs.Comparisons.{Differing, CompareSays, BesideGiven};
 
 use discount::discounts::discount_of;
 use discount::schedule::{Schedule, schedule_verdict};
-use gates::open_rating;
-use group::{Verdict, first_of};
+use gates::{RatingOpened, open_rating};
+use group::{Losses, Refusal};
 use rating::rates::{GroupFigures, put_bills};
-use steps::balance::Balanced;
-use steps::bill::{Terms, bill_at};
+use steps::bill::{Terms, bill_of};
 
 // What the call gives beside the premiums and the differences: what Rate gives, the discount, guaranteed cost, and the sum of
 // the differences.
@@ -30,13 +30,6 @@ pub struct Comparison {
     pub discount: u32,
     pub guaranteed: u32,
     pub difference: i64,
-}
-
-// What the call gives, or the number of the first question that failed.
-#[derive(Clone, Copy)]
-pub enum Compared {
-    Given(Comparison),
-    Refused(u32),
 }
 
 // A bill less guaranteed cost.
@@ -56,36 +49,33 @@ fn sum_of(total: i64, difference: i64) -> i64
 
 // Puts what each risk is billed above or below guaranteed cost into a buffer with room; their sum. It asks nothing and stores
 // nothing else.
-fn put_differences(terms: Terms, limiteds: &[u32], cost: u32, out: &mut [i64]) -> i64
-    requires { Differing terms limiteds.now (length out.old) }
-    ensures summed { result ≡ sum_z (λ z. z) (differences_of cost (bills_of terms limiteds.now)) }
+fn put_differences(terms: Terms, losses: &[Losses], cost: u32, out: &mut [i64]) -> i64
+    requires { Differing terms (losses_of losses.now) (length out.old) }
+    ensures summed { result ≡ sum_z (λ z. z) (differences_of cost (bills_of terms (losses_of losses.now))) }
     ensures put { out.new
-        ≡ filled (differences_of cost (bills_of terms limiteds.now)) out.old }
+        ≡ filled (differences_of cost (bills_of terms (losses_of losses.now))) out.old }
 {
-    let k = terms.risks as usize;
     let mut total: i64 = 0;
-    let mut i: usize = 0;
-    while i < k {
-        let bill = bill_at(terms, limiteds, i);
+    for (i, risk) in losses.iter().enumerate() {
+        let bill = bill_of(terms, risk.limited);
         let difference = difference_of(bill, cost);
         out[i] = difference;
         total = sum_of(total, difference);
-        i += 1;
     }
     total
 }
 
 // Question 13 of both buffers: 4 × n bytes of premiums and n differences are enough.
-fn room_verdict(risks: u32, premiums: usize, differences: usize) -> Verdict
+fn room_verdict(risks: u32, premiums: usize, differences: usize) -> Result<(), Refusal>
     ensures { verdict_is result ≡ first_no (question13 (leb (4 * risks) premiums && leb risks differences) ∷ []) }
 {
     if premiums < 4 * risks as usize {
-        return Verdict::Failed(13);
+        return Err(Refusal::Room);
     }
     if differences < risks as usize {
-        return Verdict::Failed(13);
+        return Err(Refusal::Room);
     }
-    Verdict::Passed
+    Ok(())
 }
 
 // Rates a file of whatever bytes, and sets each bill beside guaranteed cost by a schedule of whatever numbers, into buffers of
@@ -95,46 +85,34 @@ pub fn compare(
     schedule: Schedule,
     premiums: &mut [u8],
     differences: &mut [i64],
-) -> Compared
+) -> Result<Comparison, Refusal>
     ensures says { CompareSays file.now (layers_of schedule.layers) premiums.old differences.old result
         premiums.new differences.new }
     ensures beside { BesideGiven result file.now premiums.new differences.new }
 {
-    let opened = open_rating(file);
-    let balanced = opened.balanced;
-    match balanced {
-        Balanced::Refused(k) => Compared::Refused(k),
-        Balanced::Given(terms) => {
-            let room = room_verdict(terms.risks, premiums.len(), differences.len());
-            let of_schedule = schedule_verdict(schedule);
-            let asked = first_of(room, of_schedule);
-            match asked {
-                Verdict::Failed(k) => Compared::Refused(k),
-                Verdict::Passed => {
-                    let premium = opened.header.standard_premium;
-                    let discount = discount_of(schedule, premium);
-                    let guaranteed = premium - discount;
-                    let billed = put_bills(terms, &opened.losses.limiteds, premiums);
-                    let difference = put_differences(
-                        terms,
-                        &opened.losses.limiteds,
-                        guaranteed,
-                        differences,
-                    );
-                    let rated = GroupFigures {
-                        risks: terms.risks,
-                        basic: terms.basic,
-                        excess: terms.excess,
-                        billed,
-                    };
-                    Compared::Given(Comparison {
-                        rated,
-                        discount,
-                        guaranteed,
-                        difference,
-                    })
-                }
-            }
-        }
-    }
+    let RatingOpened {
+        terms,
+        header,
+        losses,
+        ..
+    } = open_rating(file);
+    let terms = terms?;
+    room_verdict(terms.risks, premiums.len(), differences.len())?;
+    schedule_verdict(schedule)?;
+    let premium = header.standard_premium;
+    let discount = discount_of(schedule, premium);
+    let guaranteed = premium - discount;
+    let billed = put_bills(terms, &losses.of_risks, premiums);
+    let difference = put_differences(terms, &losses.of_risks, guaranteed, differences);
+    Ok(Comparison {
+        rated: GroupFigures {
+            risks: terms.risks,
+            basic: terms.basic,
+            excess: terms.excess,
+            billed,
+        },
+        discount,
+        guaranteed,
+        difference,
+    })
 }

@@ -1,3 +1,3 @@
 -- Laws of the loop that puts the bills and of Rate's answer, which functions' proofs cite.
-mod Billing
+pub mod Billing
 mod Answers

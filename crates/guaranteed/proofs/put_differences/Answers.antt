@@ -1,24 +1,53 @@
 -- A turn puts the next bill less guaranteed cost, and adds it to the sum, which fits.
-use Rattle.std.proofs.Common.{◌≡◌, sym, ap, ◌∙◌, subst, ℕ, ◌+◌, ℤ, pos, ◌-ℤ◌, get_or, set, w64, to_z, of_z, to_z-of_z}
-use Rattle.plan.specs.Premium.{bill_with}
-use Rattle.steps.specs.Terms.{terms_is}
-use Rattle.guaranteed.proofs.Differencing.{Differencing, differencing-more, differences-summed}
+use Rattle.std.proofs.Common.{◌≡◌, sym, ◌∙◌, subst, ℕ, ◌+◌, ◌^◌, ◌<◌, ℤ, pos, ◌-ℤ◌, length, get_or, set, w64, to_z, of_z, to_z-of_z, arith}
+use Rattle.group.specs.Values.{losses_of}
+use Rattle.rating.specs.Bills.{bills_of}
+use Rattle.rating.proofs.Billing.{counted, bill-at}
+use Rattle.guaranteed.proofs.Differencing.{Differencing, differencing-starts, bill_fits, differencing-more, sum_fits, differences-summed, differences-put}
 use Rattle.guaranteed.proofs.put_differences.Goals as goal
+use Rattle.guaranteed.proofs.put_differences.Goals.{After-difference_of-difference}
+
+pub loop-i-init : goal.loop-i-init
+loop-i-init c = differencing-starts (losses_of c.args.losses.now) c.args.cost c.args.out.now c.requires
+
+module _ (c : goal.After-difference_of-difference) where
+  -- the next bill is that of the next risk
+  is : c.bill_of-bill.result ≡ get_or (bills_of c.args.terms (losses_of c.args.losses.now)) c.loop-i.i 0
+  is = c.bill_of-bill.ensures ∙ bill-at c.args.terms c.args.losses.now c.loop-i.i _ c.loop-i-test.true
+
+  below : c.loop-i.i < length (losses_of c.args.losses.now)
+  below = omega (arith, c.loop-i-test.true, counted c.args.losses.now)
+
+  small : c.bill_of-bill.result < 2 ^ 31
+  small =
+      subst (λ (b : ℕ). b < 2 ^ 31) (sym c.bill_of-bill.ensures)
+      (bill_fits (losses_of c.args.losses.now) c.args.cost c.args.out.now c.requires _)
+
+  difference-is : to_z w64 (of_z w64 c.difference_of-difference.result) ≡ pos c.bill_of-bill.result -ℤ pos c.args.cost
+  difference-is = to_z-of_z {w = w64} (record { sfits = c.difference_of-difference.type_inv }) ∙ c.difference_of-difference.ensures
+
+pub sum_of-total-requires : goal.sum_of-total-requires
+sum_of-total-requires c = record {
+  sfits =
+      sum_fits (losses_of c.args.losses.now) c.args.cost c.args.out.now c.requires c.loop-i.invariant (below c) (is c) (small c) (difference-is c)
+      (omega (arith, c.ranges.cost));
+}
 
 pub loop-i-preserved : goal.loop-i-preserved
 loop-i-preserved c =
-    let l = c.loop-i in
-    let a = c.args in
-    let is : to_z w64 (of_z w64 c.difference_of-difference.result) ≡ pos (bill_with (terms_is a.terms) (get_or a.limiteds.now l.i 0)) -ℤ pos a.cost =
-    to_z-of_z {w = w64} (record { sfits = c.difference_of-difference.type_inv })
-    ∙ c.difference_of-difference.ensures
-    ∙ ap (λ (b : ℕ). pos b -ℤ pos a.cost) c.bill_at-bill.ensures in
+    let p = (goal.at.loop-i-preserved c).After-difference_of-difference in
     subst
-    (λ (z : ℤ). Differencing a.terms a.limiteds.now a.cost a.out.now (l.i + 1) z
-    (set l.out l.i (to_z w64 (of_z w64 c.difference_of-difference.result))))
+    (λ (z : ℤ). Differencing (bills_of c.args.terms (losses_of c.args.losses.now)) c.args.cost c.args.out.now (c.loop-i.i + 1) z
+    (set c.loop-i.out c.loop-i.i (to_z w64 (of_z w64 c.difference_of-difference.result))))
     (sym (to_z-of_z {w = w64} (record { sfits = c.sum_of-total.type_inv }) ∙ c.sum_of-total.ensures))
-    (differencing-more a.limiteds.now a.cost a.out.now c.requires l.invariant c.loop-i-test.true is)
+    (differencing-more (losses_of c.args.losses.now) c.args.cost c.args.out.now c.requires c.loop-i.invariant (below p) (is p) (small p) (difference-is p))
 
 pub returns-clause-summed : goal.returns-clause-summed
 returns-clause-summed c =
-    differences-summed c.args.limiteds.now c.args.cost c.args.out.now c.requires c.loop-i.invariant c.loop-i-test.false
+    differences-summed (losses_of c.args.losses.now) c.args.cost c.args.out.now c.requires c.loop-i.invariant
+    (omega (arith, c.loop-i-test.false, counted c.args.losses.now))
+
+pub returns-clause-put : goal.returns-clause-put
+returns-clause-put c =
+    differences-put (losses_of c.args.losses.now) c.args.cost c.args.out.now c.requires c.loop-i.invariant
+    (omega (arith, c.loop-i-test.false, counted c.args.losses.now))
