@@ -1,49 +1,44 @@
 -- From the numbers that the code has of a file's group to document 02's: the terms are the file's, each limited loss is within its
 -- bound, and whether a basic premium reaches by them is whether it reaches by the file. So the answer is the file's, and what holds of it
 -- is what the laws say. Assumes nothing.
-use mathlib.Core.Path.{◌≡◌, sym, ap, ◌∙◌, subst}
-use mathlib.Core.Bool.{Bool}
-use mathlib.Core.List.{List, [], ◌∷◌}
-use Prim.Native.Nat.{ℕ, ◌+◌, ◌*◌, ◌-◌, ◌≤◌, ◌<◌}
-use native.Mathlib.Nat.{mul-le-mul}
-use native.Mathlib.Omega.{arith}
-use borrow.Author.Tests.{le-leb}
-use lib.Dec.{leb}
-use lib.ListN.{length, get_or, take}
-use lib.Seq.{get_or-take}
+use Rattle.std.proofs.Common.{◌≡◌, sym, ap, ◌∙◌, subst, Bool, List, [], ◌∷◌, map, ℕ, ◌+◌, ◌*◌, ◌-◌, ◌≤◌, ◌<◌, leb, length, get_or, Result, Ok, Err, le-leb, arith}
+use Rattle.std.proofs.Math.Nat.{mul-le-mul}
+use Rattle.std.proofs.lemmas.List.{get_or-map}
+use Rattle.std.proofs.lemmas.Simd.{map-map}
 use Rattle.plan.specs.Arithmetic.{sum_of}
-use Rattle.plan.specs.Sizes.{most_risks, most_risk_losses, most_group_losses}
+use Rattle.plan.specs.Sizes.{most_risk_losses, most_group_losses}
 use Rattle.plan.specs.Header as plan
 use Rattle.plan.specs.Header.{header_of, header_bits, risk_count}
-use Rattle.plan.specs.Losses.{Losses, losses_in}
+use Rattle.plan.specs.Losses as losses
+use Rattle.plan.specs.Losses.{losses_in}
 use Rattle.plan.specs.Basic.{excess_of, excess_charge}
 use Rattle.plan.specs.Demand3.{taxed_expenses_and_losses}
 use Rattle.plan.specs.Bounds.{GroupBounds}
 use Rattle.plan.specs.Questions.{Verdict, passed, first_no, or_else, ask, loss_questions}
 use Rattle.plan.specs.Calls.{answer}
+use Rattle.plan.specs.SoldOnPremiums as sold
 use Rattle.plan.specs.SoldOnPremiums.{held_premium, plan_terms_of, premiums_at, reaches, most_basic, halvings}
 use Rattle.plan.specs.SoldOnPremiums.{question22, question23, bound_questions, plan_for}
-use Rattle.plan.proofs.Sums.{sum-map}
 use Rattle.plan.proofs.Losses.{length-losses, each-limited-le}
 use Rattle.plan.proofs.Questions.{after-gate, answered, loss-sound}
 use Rattle.plan.proofs.FileSizes.{group-bounds}
 use Rattle.plan.proofs.Plans.{given-sold, refused-unsold}
-use Rattle.group.specs.Values.{header_is, LossesAre}
+use Rattle.group.specs.Refusals.{number_of, answer_is}
+use Rattle.group.specs.Values.{header_is, losses_of, losses_is, LossesAre}
+use Rattle.group.specs.declared.Refusal.{Refusal}
 use Rattle.group.specs.declared.Header as group
+use Rattle.group.specs.declared.Losses as group_losses
 use Rattle.group.specs.declared.GroupLosses.{GroupLosses}
-use Rattle.group.proofs.Losses.{limiteds_are, limiteds-enough}
+use Rattle.group.proofs.Group as laws
 use Rattle.steps.specs.Basic.{ExcessBounds}
-use Rattle.totals.specs.Totals.{plan_terms_is, value_of, PlanBounds, OwedBounds, reaches_by}
-use Rattle.totals.specs.declared.PlanTerms as totals
-use Rattle.totals.specs.declared.Parts.{Parts}
-use Rattle.premium_plans.specs.PremiumPlans.{planned_is, SoldBy}
-use Rattle.premium_plans.specs.declared.Planned.{Planned}
-use Rattle.premium_plans.specs.declared.Planned.TheVariants as answers
+use Rattle.totals.specs.Owed.{OwedBounds}
+use Rattle.premium_plans.specs.PremiumPlans.{plan_is, SoldBy}
+use Rattle.premium_plans.specs.declared.PlanFound.{PlanFound}
 
 -- what holds of an answer follows from its being document 02's
-pub sold-by : (r : Planned) (s : List ℕ) (g h trials : ℕ) → planned_is r ≡ plan_for s g h trials → SoldBy r s g h trials
-sold-by (answers.Given p) s g h trials e = given-sold s g h trials _ (sym e)
-sold-by (answers.Refused k) s g h trials e = refused-unsold s g h trials k (sym e)
+pub sold-by : (r : Result PlanFound Refusal) (s : List ℕ) (g h trials : ℕ) → answer_is plan_is r ≡ plan_for s g h trials → SoldBy r s g h trials
+sold-by (Ok p) s g h trials e = given-sold s g h trials _ (sym e)
+sold-by (Err k) s g h trials e = refused-unsold s g h trials (number_of k) (sym e)
 
 -- ---- the verdict
 
@@ -66,6 +61,17 @@ pub record AtHand (s : List ℕ) (v : group.Header) (l : GroupLosses) : Type 0 w
   pub header : header_is v ≡ header_of s
   pub losses : LossesAre (losses_in s) l
 
+-- and what it looks for a basic premium by, with G and H: the terms, the losses and what is to be paid
+pub record LooksBy (v : group.Header) (l : GroupLosses) (g h : ℕ) (t : sold.PlanTerms) (rs : List losses.Losses) (owed : ℕ) : Type 0 where
+  pub risks : t.risks ≡ length l.of_risks.items
+  pub conversion : t.conversion ≡ v.conversion
+  pub tax : t.tax ≡ v.tax
+  pub excess : t.excess ≡ excess_of v.conversion l.total l.limited
+  pub maximum : t.maximum ≡ g
+  pub minimum : t.minimum ≡ h
+  pub each : rs ≡ losses_is l
+  pub owed_is : owed ≡ 1000 * t.risks * v.tax * (t.risks * v.expense + l.total)
+
 module _ {s : List ℕ} {v : group.Header} {l : GroupLosses} (x : AtHand s v l) where
   bounds : GroupBounds (header_of s) (losses_in s)
   bounds = group-bounds s (loss-sound s x.passes).file
@@ -79,9 +85,6 @@ module _ {s : List ℕ} {v : group.Header} {l : GroupLosses} (x : AtHand s v l) 
   expense-is : v.expense ≡ (header_of s).expense
   expense-is = ap (λ (y : plan.Header). y.expense) x.header
 
-  few : l.risks ≤ most_risks
-  few = omega (arith, x.losses.risks, bounds.risks)
-
   total_most : l.total ≤ most_group_losses
   total_most = omega (arith, x.losses.total, bounds.total, bounds.risks)
 
@@ -92,9 +95,9 @@ module _ {s : List ℕ} {v : group.Header} {l : GroupLosses} (x : AtHand s v l) 
     total_most = total_most;
   }
 
-  pub owed-bounds : OwedBounds l.risks v.tax v.expense l.total
-  owed-bounds = record {
-    few = few;
+  pub owed-bounds : (n : ℕ) → n ≡ length l.of_risks.items → OwedBounds n v.tax v.expense l.total
+  owed-bounds n e = record {
+    few = omega (arith, e, laws.risks x.losses, bounds.risks);
     tax_most = omega (arith, tax-is, bounds.sound.tax_most);
     expense_lt = omega (arith, expense-is, bounds.expense);
     total_most = total_most;
@@ -106,69 +109,52 @@ module _ {s : List ℕ} {v : group.Header} {l : GroupLosses} (x : AtHand s v l) 
       let some : l.total - l.limited ≤ most_group_losses = omega (arith, total_most) in
       omega (arith, mul-le-mul excess-bounds.conversion_most some)
 
-  pub enough : l.risks ≤ length l.limiteds
-  enough = limiteds-enough x.losses bounds.risks
-
   -- each A
-  pub each : (i : ℕ) → i < l.risks → get_or l.limiteds i 0 ≤ most_risk_losses
-  each i h =
+  pub each : (xs : List group_losses.Losses) → losses_of xs ≡ losses_is l → (k : ℕ) (d : group_losses.Losses) → k < length xs
+      → (get_or xs k d).limited ≤ most_risk_losses
+  each xs e k d h =
+      let own : map (λ (r : losses.Losses). r.limited) (losses_of xs) ≡ map (λ (r : losses.Losses). r.limited) (losses_in s) =
+      ap (λ (rs : List losses.Losses). map (λ (r : losses.Losses). r.limited) rs) (e ∙ x.losses.each) in
       subst (λ (a : ℕ). a ≤ most_risk_losses)
-      (sym (sym (get_or-take l.risks l.limiteds i 0 h) ∙ ap (λ (l : List ℕ). get_or l i 0) (limiteds_are x.losses)))
-      (each-limited-le s (header_of s).loss_limit header_bits (risk_count s) i)
+      (ap (λ (bs : List ℕ). get_or bs k 0) (sym own ∙ map-map (λ (r : losses.Losses). r.limited) _ xs) ∙ get_or-map (λ (y : group_losses.Losses). y.limited) xs k d 0 h)
+      (each-limited-le s (header_of s).loss_limit header_bits (risk_count s) k)
 
-  -- the terms with any Q within its bound, and any G and H
-  module _ (g h q : ℕ) where
-    abbrev pub terms : totals.PlanTerms
-    terms = record { risks = l.risks; conversion = v.conversion; tax = v.tax; excess = q; maximum = g; minimum = h }
+  -- a basic premium reaches by them where it does by the file
+  module _ {g h : ℕ} {t : sold.PlanTerms} {rs : List losses.Losses} {owed : ℕ} (w : LooksBy v l g h t rs owed) where
+    abbrev pub test : ℕ → Bool
+    test b = leb owed (sum_of (λ (r : losses.Losses). held_premium t b r.limited) rs)
 
-    pub plan-bounds : q ≤ 2000 * most_group_losses → PlanBounds terms
-    plan-bounds most = record {
-      few = few;
-      conversion = excess-bounds.conversion_most;
-      tax = owed-bounds.tax_most;
-      excess = most;
-    }
+    risks-are : t.risks ≡ risk_count s
+    risks-are = w.risks ∙ laws.risks x.losses ∙ length-losses s
 
-  -- and with the file's
-  module _ (g h q : ℕ) (q-is : q ≡ excess_of v.conversion l.total l.limited) where
-    -- are those of the file
-    terms-are : plan_terms_is (terms g h q) ≡ plan_terms_of s g h
+    terms-are : t ≡ plan_terms_of s g h
     unfolding excess_charge
     terms-are =
-        let charge = q-is ∙ (λ i. excess_of (conversion-is i) (x.losses.total i) (x.losses.limited i)) in
-        let risks = x.losses.risks ∙ length-losses s in
+        let charge = w.excess ∙ (λ i. excess_of (conversion-is i) (x.losses.total i) (x.losses.limited i)) in
         λ i. record {
-          risks = risks i;
-          conversion = conversion-is i;
-          tax = tax-is i;
+          risks = risks-are i;
+          conversion = (w.conversion ∙ conversion-is) i;
+          tax = (w.tax ∙ tax-is) i;
           excess = charge i;
-          maximum = g;
-          minimum = h;
+          maximum = w.maximum i;
+          minimum = w.minimum i;
         }
 
-    total_is : (b : ℕ) → sum_of (held_premium (plan_terms_is (terms g h q)) b) (take l.risks l.limiteds) ≡ premiums_at s g h b
+    total_is : (b : ℕ) → sum_of (λ (r : losses.Losses). held_premium t b r.limited) rs ≡ premiums_at s g h b
     unfolding premiums_at
-    total_is b =
-        (λ i. sum_of (held_premium (terms-are i) b) (limiteds_are x.losses i))
-        ∙ sum-map (held_premium (plan_terms_of s g h) b) (λ (r : Losses). r.limited) (losses_in s)
+    total_is b = λ i. sum_of (λ (r : losses.Losses). held_premium (terms-are i) b r.limited) ((w.each ∙ x.losses.each) i)
 
-    module _ (o : Parts) (owed : value_of o ≡ 1000 * l.risks * v.tax * (l.risks * v.expense + l.total)) where
-      owed-is : value_of o ≡ taxed_expenses_and_losses s
-      unfolding taxed_expenses_and_losses
-      owed-is =
-          let risks = x.losses.risks ∙ length-losses s in
-          owed ∙ (λ i. 1000 * risks i * tax-is i * (risks i * expense-is i + x.losses.total i))
+    owed-is : owed ≡ taxed_expenses_and_losses s
+    unfolding taxed_expenses_and_losses
+    owed-is = w.owed_is ∙ (λ i. 1000 * risks-are i * tax-is i * (risks-are i * expense-is i + x.losses.total i))
 
-      -- and a basic premium reaches by them where it does by the file
-      tests : reaches_by (terms g h q) l.limiteds o ≡ reaches s g h
-      tests = λ i b. leb (owed-is i) (total_is b i)
+    tests : test ≡ reaches s g h
+    tests = λ i b. leb (owed-is i) (total_is b i)
 
-      pub found : (trials : ℕ) (r : Planned) → h ≤ g
-          → planned_is r
-          ≡ answer (first_no (ask 23 (reaches_by (terms g h q) l.limiteds o most_basic) ∷ []))
-          (halvings (reaches_by (terms g h q) l.limiteds o) trials)
-          → planned_is r ≡ plan_for s g h trials
-      found trials r in_order e =
-          e
-          ∙ ap (λ (test : ℕ → Bool). answer (first_no (ask 23 (test most_basic) ∷ [])) (halvings test trials)) tests
-          ∙ planned s g h trials x.passes (le-leb h g in_order)
+    pub found : (trials : ℕ) (r : Result PlanFound Refusal) → h ≤ g
+        → answer_is plan_is r ≡ answer (first_no (ask 23 (test most_basic) ∷ [])) (halvings test trials)
+        → answer_is plan_is r ≡ plan_for s g h trials
+    found trials r in_order e =
+        e
+        ∙ ap (λ (test : ℕ → Bool). answer (first_no (ask 23 (test most_basic) ∷ [])) (halvings test trials)) tests
+        ∙ planned s g h trials x.passes (le-leb h g in_order)

@@ -5,7 +5,7 @@ use Rattle.std.proofs.lemmas.Int.{to_z-of_z}
 use Rattle.plan.specs.SoldOnPremiums.{halvings}
 use Rattle.plan.proofs.Halvings.{before_is, plan_with, Halving, halving-starts, halving-reached}
 use Rattle.plan.proofs.Halvings.{halving-short, few, given_made, no-more-made}
-use Rattle.totals.specs.Totals.{reaches_by}
+use Rattle.premium_plans.specs.PremiumPlans.{reached_by}
 use Rattle.premium_plans.proofs.halve.Goals as goal
 use Rattle.premium_plans.proofs.halve.Goals.{then-reaches, else-reaches}
 use Rattle.premium_plans.proofs.halve.Goals.{then-loop-made-test+else-from-best, else-loop-made-test}
@@ -37,7 +37,7 @@ returns c =
     let x = l.invariant.1 in
     let short =
     to_z-of_z w32 _ (record { sfits = c.before_it.type_inv }) ∙ c.before_it.ensures ∙ before_is l.from in
-    let all : halvings (reaches_by a.terms a.limiteds.now a.owed) a.trials ≡ plan_with l.made l.best l.from =
+    let all : halvings (reached_by a.target.now) a.trials ≡ plan_with l.made l.best l.from =
     elim c.loop-made-test.branch [
       | then-loop-made-test+else-from-best w ↦ no-more-made x l.invariant.0 w.if-from-best.false
       | else-loop-made-test w ↦ given_made x (omega (arith, w.loop-made-test.false, l.invariant.0))
