@@ -10,10 +10,12 @@ use Rattle.plan.specs.Questions.{Verdict, passed, failed, first_no, or_else, fil
 use Rattle.plan.specs.Calls.{Answer, given, giving, filled, buffer_after, read}
 use Rattle.plan.proofs.Questions.{after-gate, answered}
 use Rattle.plan.proofs.Risks.{length-counts}
+use Rattle.std.proofs.Common.{Ok, Err}
+use Rattle.group.specs.Refusals.{number_of}
 use Rattle.group.specs.Values.{header_is}
+use Rattle.group.specs.declared.Refusal.{Refusal}
 use Rattle.reading.specs.Reading.{values_given, Buffers, ReadSays}
 use Rattle.reading.specs.declared.ReadValues.{ReadValues}
-use Rattle.reading.specs.declared.GroupRead.TheVariants.{Given, Refused}
 
 module _ (s : List ℕ) (old : Buffers) where
   abbrev pub enough : Bool
@@ -30,9 +32,9 @@ module _ (s : List ℕ) (old : Buffers) where
       after-gate (file_questions s) (question13 enough ∷ []) e ∙ ap (λ (b : Bool). or_else v (first_no (question13 b ∷ []))) f
 
   -- a refusal leaves all as it was
-  pub refused_says : {k : ℕ} → asked ≡ failed k → ReadSays s old (Refused k) old
+  pub refused_says : (r : Refusal) → asked ≡ failed (number_of r) → ReadSays s old (Err r) old
   unfolding read
-  refused_says e =
+  refused_says r e =
       let a = answered (group_of s) e in
       record {
         answer = sym (ap (giving values_given) a);
@@ -46,7 +48,7 @@ module _ (s : List ℕ) (old : Buffers) where
       → v.edition ≡ edition_of s → v.risks ≡ risk_count s → header_is v.header ≡ header_of s
       → new.counts ≡ filled (counts_of s) old.counts → new.claims ≡ filled (group_of s).claims old.claims
       → new.joined ≡ filled (group_of s).joined old.joined
-      → ReadSays s old (Given v) new
+      → ReadSays s old (Ok v) new
   unfolding read
   given-says e edition n header c d j =
       let a = answered (group_of s) e in

@@ -1,6 +1,5 @@
--- The answer of Read as document 01's, and document 02's, job 4: for each case of the code's enum its number or values. And the room that
--- reading the risks asks for.
-use Rattle.std.specs.Prelude.{◌≡◌, List, ℕ, ◌≤◌, length}
+-- The answer of Read as document 01's, and document 02's, job 4. And the room that reading the risks asks for.
+use Rattle.std.specs.Prelude.{◌≡◌, List, ℕ, ◌≤◌, length, Result}
 use Rattle.plan.specs.Arithmetic.{sum}
 use Rattle.plan.specs.Sizes.{most_risks}
 use Rattle.plan.specs.Header as plan
@@ -8,10 +7,11 @@ use Rattle.plan.specs.Claim.{Claim}
 use Rattle.plan.specs.Claim as claims
 use Rattle.plan.specs.Risk.{counts_from}
 use Rattle.plan.specs.File.{Group}
-use Rattle.plan.specs.Calls.{Answer, refused, given, giving, read_into, read_counts, read_claims, read_joined}
+use Rattle.plan.specs.Calls.{Answer, giving, read_into, read_counts, read_claims, read_joined}
 use Rattle.group.specs.Values.{header_is}
-use Rattle.reading.specs.declared.GroupRead.{GroupRead}
-use Rattle.reading.specs.declared.GroupRead.TheVariants as answers
+use Rattle.group.specs.Refusals.{answer_is}
+use Rattle.group.specs.declared.Refusal.{Refusal}
+use Rattle.reading.specs.declared.ReadValues.{ReadValues}
 
 -- a claim's bit
 abbrev pub bit : Claim → ℕ
@@ -27,10 +27,9 @@ pub record ValuesGiven : Type 0 where
 abbrev pub values_given : Group → ValuesGiven
 values_given g = record { edition = g.edition; risks = length g.counts; header = g.header }
 
--- the code's answer
-abbrev pub read_is : GroupRead → Answer ValuesGiven
-read_is (answers.Given v) = given (record { edition = v.edition; risks = v.risks; header = header_is v.header })
-read_is (answers.Refused k) = refused k
+-- the code's values
+abbrev pub read_is : ReadValues → ValuesGiven
+read_is v = record { edition = v.edition; risks = v.risks; header = header_is v.header }
 
 -- the three buffers that are lent to Read
 pub record Buffers : Type 0 where
@@ -46,8 +45,8 @@ abbrev pub read_with : List ℕ → Buffers → Answer Group
 read_with s b = read_into s b.counts b.claims b.joined
 
 -- a call of Read on the file s, whose buffers held `old` and hold `new` after it
-pub record ReadSays (s : List ℕ) (old : Buffers) (r : GroupRead) (new : Buffers) : Type 0 where
-  pub answer : read_is r ≡ giving values_given (read_with s old)
+pub record ReadSays (s : List ℕ) (old : Buffers) (r : Result ReadValues Refusal) (new : Buffers) : Type 0 where
+  pub answer : answer_is read_is r ≡ giving values_given (read_with s old)
   pub counts_after : new.counts ≡ read_counts s old.counts old.claims old.joined
   pub claims_after : new.claims ≡ read_claims s old.counts old.claims old.joined
   pub joined_after : new.joined ≡ read_joined s old.counts old.claims old.joined

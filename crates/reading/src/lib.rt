@@ -14,8 +14,8 @@ ghost use Rattle.reading.specs.Reading.{bit, buffers, RisksRoom, ReadSays};
 use bits::BitPlace;
 use claims::claim::{claim_at, reach_of};
 use counts::count_at;
-use group::{Header, Verdict};
-use groupfile::opening::open_outline;
+use group::{Header, Refusal};
+use groupfile::opening::{Outline, open_outline};
 
 // What Read gives beside the buffers: the edition, the number of risks and the header values.
 #[derive(Clone, Copy)]
@@ -23,13 +23,6 @@ pub struct ReadValues {
     pub edition: u32,
     pub risks: u32,
     pub header: Header,
-}
-
-// What Read gives, or the number of the first question that failed.
-#[derive(Clone, Copy)]
-pub enum GroupRead {
-    Given(ReadValues),
-    Refused(u32),
 }
 
 // The claims from a place on, as many as `count`, into two buffers' entries from `from` on, the dollars and the bits; the place after
@@ -98,35 +91,44 @@ fn read_risks(
 }
 
 // Reads a file of whatever bytes into buffers of whatever length.
-pub fn read(file: &[u8], counts: &mut [u8], claims: &mut [u32], joined: &mut [u8]) -> GroupRead
+pub fn read(
+    file: &[u8],
+    counts: &mut [u8],
+    claims: &mut [u32],
+    joined: &mut [u8],
+) -> Result<ReadValues, Refusal>
     ensures { ReadSays file.now (buffers counts.old claims.old joined.old)
         result (buffers counts.new claims.new joined.new) }
 {
-    let opened = open_outline(file);
-    let verdict = opened.verdict;
-    let risks = opened.risks;
-    let run = opened.run;
-    match verdict {
-        Verdict::Failed(k) => GroupRead::Refused(k),
-        Verdict::Passed => {
-            if counts.len() < risks as usize {
-                return GroupRead::Refused(13);
-            }
-            if claims.len() < run.claims as usize {
-                return GroupRead::Refused(13);
-            }
-            if joined.len() < run.claims as usize {
-                return GroupRead::Refused(13);
-            }
-            let first = run.first;
-            let edition = run.edition;
-            read_risks(file, first, risks as usize, edition, counts, claims, joined);
-            let header = opened.header;
-            GroupRead::Given(ReadValues {
-                edition,
-                risks,
-                header,
-            })
-        }
+    let Outline {
+        verdict,
+        header,
+        risks,
+        run,
+    } = open_outline(file);
+    verdict?;
+    if counts.len() < risks as usize {
+        return Err(Refusal::Room);
     }
+    if claims.len() < run.claims as usize {
+        return Err(Refusal::Room);
+    }
+    if joined.len() < run.claims as usize {
+        return Err(Refusal::Room);
+    }
+    let edition = run.edition;
+    read_risks(
+        file,
+        run.first,
+        risks as usize,
+        edition,
+        counts,
+        claims,
+        joined,
+    );
+    Ok(ReadValues {
+        edition,
+        risks,
+        header,
+    })
 }

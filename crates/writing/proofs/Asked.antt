@@ -20,8 +20,11 @@ use Rattle.plan.proofs.Questions.{goes_on, stops, after-gate, answered}
 use Rattle.plan.proofs.Writable.{Writable, fifteen-sound}
 use Rattle.fitting.specs.Fitting.{OpenSays}
 use Rattle.putting.specs.Putting.{Ready}
+use Rattle.std.proofs.Common.{Ok, Err}
 use Rattle.writing.specs.Writer.{WriteSays}
-use Rattle.writing.specs.declared.writer.Written.TheVariants as written
+use Rattle.group.specs.Refusals.{number_of}
+use Rattle.group.specs.declared.Refusal.{Refusal}
+use Rattle.group.specs.declared.Refusal.TheVariants as no
 use Rattle.writing.proofs.Lengths.{file-length}
 
 -- what the values are that question 15 passes
@@ -46,9 +49,9 @@ module _ (g : Group) (old : List ℕ) where
 
   -- ---- the answer and the buffer of a verdict
 
-  says-refused : {k : ℕ} → verdict ≡ failed k → WriteSays g old (written.Refused k) old
+  says-refused : (r : Refusal) → verdict ≡ failed (number_of r) → WriteSays g old (Err r) old
   unfolding write
-  says-refused e =
+  says-refused r e =
       let a = sym (answered file e) in
       record {
         answer = ap (giving length) a;
@@ -56,7 +59,7 @@ module _ (g : Group) (old : List ℕ) where
       }
 
   says-length : {n : ℕ} {new : List ℕ} → verdict ≡ passed → n ≡ length file → new ≡ filled file old
-      → WriteSays g old (written.Length n) new
+      → WriteSays g old (Ok n) new
   unfolding write
   says-length e l b =
       let a = sym (answered file e) in
@@ -67,8 +70,8 @@ module _ (g : Group) (old : List ℕ) where
 
   -- ---- question 2
 
-  pub refused-2 : false ≡ known_edition g.edition → WriteSays g old (written.Refused 2) old
-  refused-2 e = says-refused (stops 2 (header3_7 ++ question15 g ∷ open19 ∷ enough13 ∷ []) (sym e))
+  pub refused-2 : false ≡ known_edition g.edition → WriteSays g old (Err no.Edition) old
+  refused-2 e = says-refused no.Edition (stops 2 (header3_7 ++ question15 g ∷ open19 ∷ enough13 ∷ []) (sym e))
 
   module _ (yes2 : true ≡ known_edition g.edition) where
     -- ---- questions 3 to 7
@@ -79,8 +82,8 @@ module _ (g : Group) (old : List ℕ) where
         let last = question15 g ∷ open19 ∷ enough13 ∷ [] in
         goes_on 2 (header3_7 ++ last) (sym yes2) ∙ after-gate header3_7 last (sym f)
 
-    pub refused-header : {k : ℕ} → failed k ≡ first_no header3_7 → WriteSays g old (written.Refused k) old
-    refused-header f = says-refused (past-2 f)
+    pub refused-header : (r : Refusal) → failed (number_of r) ≡ first_no header3_7 → WriteSays g old (Err r) old
+    refused-header r f = says-refused r (past-2 f)
 
     module _ (yes7 : passed ≡ first_no header3_7) where
       -- ---- question 15
@@ -88,8 +91,8 @@ module _ (g : Group) (old : List ℕ) where
       past-7 : {b : Bool} → ask 15 b ≡ question15 g → verdict ≡ first_no (ask 15 b ∷ open19 ∷ enough13 ∷ [])
       past-7 e = past-2 yes7 ∙ ap (λ (q : Question). first_no (q ∷ open19 ∷ enough13 ∷ [])) (sym e)
 
-      pub refused-15 : ask 15 false ≡ question15 g → WriteSays g old (written.Refused 15) old
-      refused-15 e = says-refused (past-7 e)
+      pub refused-15 : ask 15 false ≡ question15 g → WriteSays g old (Err no.Misfit) old
+      refused-15 e = says-refused no.Misfit (past-7 e)
 
       module _ (yes15 : ask 15 true ≡ question15 g) where
         -- ---- question 19, which is answered whatever the dollars
@@ -99,8 +102,8 @@ module _ (g : Group) (old : List ℕ) where
             past-7 yes15
             ∙ ap (λ (b : Bool). first_no (ask 19 b ∷ enough13 ∷ [])) (sym (x g.claims (fifteen g yes15).bits))
 
-        pub refused-19 : OpenSays g.counts g.joined false → WriteSays g old (written.Refused 19) old
-        refused-19 x = says-refused (past-15 x)
+        pub refused-19 : OpenSays g.counts g.joined false → WriteSays g old (Err no.FirstJoined) old
+        refused-19 x = says-refused no.FirstJoined (past-15 x)
 
         -- ---- question 13, with the length computed
 
@@ -116,8 +119,8 @@ module _ (g : Group) (old : List ℕ) where
               past-15 yes19
               ∙ ap (λ (b : Bool). first_no (ask 13 b ∷ [])) (ap (λ (n : ℕ). leb n (length old)) (sym right) ∙ e)
 
-          pub refused-13 : length old < size → WriteSays g old (written.Refused 13) old
-          refused-13 h = says-refused (past-19 (lt-leb size (length old) h))
+          pub refused-13 : length old < size → WriteSays g old (Err no.Room) old
+          refused-13 h = says-refused no.Room (past-19 (lt-leb size (length old) h))
 
           -- ---- all passed
 
@@ -128,5 +131,5 @@ module _ (g : Group) (old : List ℕ) where
             pub ready : Ready g old size
             ready = record { passes = passes; is = right }
 
-            pub written-all : {new : List ℕ} → new ≡ filled file old → WriteSays g old (written.Length size) new
+            pub written-all : {new : List ℕ} → new ≡ filled file old → WriteSays g old (Ok size) new
             written-all b = says-length passes right b

@@ -10,17 +10,10 @@ ghost use Rattle.writing.specs.Writer.{given_group, WriteSays};
 use claims::claim::claim_width;
 use counts::COUNT_WIDTH;
 use fitting::{risks_open, values_fit};
-use group::{Header, Verdict};
+use group::{Header, Refusal};
 use groupfile::opening::HEADER_BYTES;
 use header::{header_verdict, known_edition};
 use putting::put_file;
-
-// What Write gives: the file's length, or the number of the first question that failed.
-#[derive(Clone, Copy)]
-pub enum Written {
-    Length(usize),
-    Refused(u32),
-}
 
 // The length of a file of an edition with so many risks and claims.
 fn file_length(edition: u32, risks: usize, claims: usize) -> usize
@@ -41,27 +34,24 @@ pub fn write(
     claims: &[u32],
     joined: &[u8],
     out: &mut [u8],
-) -> Written
+) -> Result<usize, Refusal>
     ensures { WriteSays (given_group edition header counts.now claims.now joined.now)
         out.old result out.new }
 {
     if !known_edition(edition) {
-        return Written::Refused(2);
+        return Err(Refusal::Edition);
     }
-    let verdict = header_verdict(header, counts.len());
-    if let Verdict::Failed(question) = verdict {
-        return Written::Refused(question);
-    }
+    header_verdict(header, counts.len())?;
     if !values_fit(edition, header, counts, claims, joined) {
-        return Written::Refused(15);
+        return Err(Refusal::Misfit);
     }
     if !risks_open(counts, joined) {
-        return Written::Refused(19);
+        return Err(Refusal::FirstJoined);
     }
     let size = file_length(edition, counts.len(), claims.len());
     if out.len() < size {
-        return Written::Refused(13);
+        return Err(Refusal::Room);
     }
     put_file(out, edition, header, counts, claims, joined, size);
-    Written::Length(size)
+    Ok(size)
 }
