@@ -1,12 +1,12 @@
 -- What is asked of the rows, and taken by them as the loop cuts a premium layer by layer: the parts taken times their rates, and what
 -- the layers to come take of what remains, are the whole sum. No rate is above 1,000, so the sum fits 32 bits at every row. Assumes nothing.
-use Rattle.std.proofs.Common.{◌≡◌, refl, sym, ap, ◌∙◌, Bool, ◌&&◌, leb, List, [], ◌∷◌, length, get_or, drop, take, ℕ, suc, ◌+◌, ◌*◌, ◌-◌, ◌/◌, ◌≤◌, ◌<◌, min, add-one, arith}
+use Rattle.std.proofs.Common.{◌≡◌, refl, sym, ap, ◌∙◌, Bool, ◌&&◌, leb, List, [], ◌∷◌, length, get_or, drop, take, ℕ, zero, suc, ◌+◌, ◌*◌, ◌-◌, ◌/◌, ◌≤◌, ◌<◌, min, add-one, arith}
 use Rattle.std.specs.List.{list_all}
 use Rattle.std.proofs.Math.ListN.{get_or-map}
 use Rattle.std.proofs.Math.Seq.{get_or-take, drop-cons}
 use Rattle.std.proofs.lemmas.List.{length-map, drop_all}
 use Rattle.plan.specs.Discount as plan
-use Rattle.plan.specs.Discount.{discount_sum, discount, most_rate, rates_pass}
+use Rattle.plan.specs.Discount.{discount_sum, discount, most_rate, rates_pass, widths_pass}
 use Rattle.plan.proofs.Discounts.{sum_most, discount-quotient, layer-taken}
 use Rattle.discount.specs.Schedules.{layer_is, layers_of, Discountable}
 use Rattle.discount.specs.declared.schedule.Layer.{Layer}
@@ -15,6 +15,14 @@ use Rattle.discount.specs.declared.schedule.Layer.{Layer}
 pub rates_are : (rows : List Layer) → rates_pass (layers_of rows) ≡ list_all (λ r. leb r.rate most_rate) rows
 rates_are [] = refl
 rates_are (r ∷ rows) = ap (λ (b : Bool). leb r.rate most_rate && b) (rates_are rows)
+
+-- question 17 row by row, but for the last
+pub widths_are : (rows : List Layer) (n : ℕ) → length rows ≡ suc n → widths_pass (layers_of rows) ≡ list_all (λ r. leb 1 r.width) (take n rows)
+widths_are [] n e = absurd (omega (arith, e))
+widths_are (r ∷ []) zero e = refl
+widths_are (r ∷ []) (suc n) e = absurd (omega (arith, e))
+widths_are (r ∷ q ∷ rows) zero e = absurd (omega (arith, e))
+widths_are (r ∷ q ∷ rows) (suc n) e = ap (λ (b : Bool). leb 1 r.width && b) (widths_are (q ∷ rows) n (omega (arith, e)))
 
 -- past the last row
 abbrev pub none : Layer
