@@ -6,10 +6,9 @@
 
 ghost use Rattle.retro.specs.Input.{Within, ReadsAll};
 
-use bits::BitPlace;
 use group::{LARGEST_FILE, MOST_RISKS};
 use rating::details::{Details, details_of};
-use rating::rates::{GroupFigures, Rated, rate};
+use rating::rates::{GroupFigures, rate};
 use std::env::{Env, FillError};
 use std::io::{Cursor, ErrorKind, Read, Write};
 use std::process::ExitCode;
@@ -18,108 +17,54 @@ use std::{io, str};
 // The signal that ends a program whose output nobody reads.
 const SIGPIPE: u8 = 13;
 
-// How many bytes were read, or why a read failed.
-#[derive(Clone, Copy)]
-enum Input {
-    Read(usize),
-    Failed(io::Error),
-}
-
-// Reads until the input ends or the buffer is full.
-fn read_input<R: Read>(reader: &mut R, input: &mut [u8]) -> Input
+// Reads until the input ends or the buffer is full; how many bytes there are. Each read gives as many as it likes, so no range or
+// iterator steps as this loop does.
+fn read_input<R: Read>(reader: &mut R, input: &mut [u8]) -> io::Result<usize>
     ensures within { Within result input.new }
     ensures all { ReadsAll result (R.remaining reader.old) (R.remaining reader.new) input.new }
 {
     let mut done: usize = 0;
     while done < input.len() {
-        match reader.read(&mut input[done..]) {
-            Err(error) => return Input::Failed(error),
-            Ok(more) => {
-                if more == 0 {
-                    return Input::Read(done);
-                }
-                done += more;
-            }
+        let more = reader.read(&mut input[done..])?;
+        if more == 0 {
+            return Ok(done);
         }
+        done += more;
     }
-    Input::Read(done)
-}
-
-// A space and a number.
-fn print_next(rt: &impl Print, n: u64) -> io::Result<()> {
-    print!(rt; " {n}")
-}
-
-// Four numbers, each after a space, and the end of the line.
-fn print_four(rt: &impl Print, a: u64, b: u64, c: u64, d: u64) -> io::Result<()> {
-    print_next(rt, a)?;
-    print_next(rt, b)?;
-    print_next(rt, c)?;
-    print_next(rt, d)?;
-    println!(rt)
+    Ok(done)
 }
 
 // The word, n, M, Q and the sum billed.
 fn print_group(rt: &impl Print, g: GroupFigures) -> io::Result<()> {
-    print!(rt; "group")?;
-    print_four(rt, g.risks as u64, g.basic, g.excess, g.billed)
+    println!(rt; "group {} {} {} {}", g.risks, g.basic, g.excess, g.billed)
 }
 
-// Risk number, L, A, K and premium.
-fn print_risk(
-    rt: &impl Print,
-    number: u64,
-    total: u32,
-    limited: u32,
-    ratable: u32,
-    premium: u32,
-) -> io::Result<()> {
-    print!(rt; "{number}")?;
-    print_four(
-        rt,
-        total as u64,
-        limited as u64,
-        ratable as u64,
-        premium as u64,
-    )
-}
-
-// A line for each of the n risks, of which there are 255 at most.
-fn print_risks(rt: &impl Print, d: Details, premiums: &[u8], n: usize) -> io::Result<()> {
-    let losses = d.losses;
-    let totals = losses.totals;
-    let limiteds = losses.limiteds;
-    let ratables = d.ratables;
-    let mut place = BitPlace { at: 0 };
-    for i in 0..MOST_RISKS {
-        if i < n {
-            let premium = place.take(premiums, 32);
-            place = premium.next;
-            print_risk(
-                rt,
-                i as u64 + 1,
-                totals[i],
-                limiteds[i],
-                ratables[i],
-                premium.value,
-            )?;
-        }
+// A line for each risk: its number, L, A, K and its premium, which lies in four bytes.
+fn print_risks(rt: &impl Print, details: &Details, premiums: &[u8]) -> io::Result<()> {
+    let (bills, _) = premiums.as_chunks::<4>();
+    let risks = details
+        .losses
+        .of_risks
+        .iter()
+        .zip(&details.ratables)
+        .zip(bills);
+    for (number, ((risk, ratable), bill)) in (1..=MOST_RISKS).zip(risks) {
+        let premium = u32::from_be_bytes(*bill);
+        println!(rt;
+            "{number} {} {} {ratable} {premium}",
+            risk.total, risk.limited
+        )?;
     }
     Ok(())
-}
-
-fn print_refused(rt: &impl Print, k: u32) -> io::Result<()> {
-    println!(rt; "refused {k}")
 }
 
 // Rates a file and prints what comes of it; the buffer has room for 255 premiums.
 fn report(rt: &impl Print, file: &[u8], premiums: &mut [u8]) -> io::Result<()> {
     match rate(file, premiums) {
-        Rated::Refused(k) => print_refused(rt, k),
-        Rated::Given(g) => {
-            let n = g.risks as usize;
-            print_group(rt, g)?;
-            print_risks(rt, details_of(file), premiums, n)
+        Err(refusal) => println!(rt; "refused {refusal}"),
+        Ok(figures) => {
+            print_group(rt, figures)?;
+            print_risks(rt, &details_of(file), premiums)
         }
     }
 }
@@ -157,14 +102,15 @@ fn main(rt: HostRuntime) -> ExitCode {
     }
     let mut input = [0u8; LARGEST_FILE + 1];
     let mut premiums = [0u8; 4 * MOST_RISKS];
-    match read_input(&mut rt.stdin(), &mut input) {
-        Input::Failed(error) => {
+    let n = match read_input(&mut rt.stdin(), &mut input) {
+        Ok(n) => n,
+        Err(error) => {
             tell(&rt, "standard input", error);
-            ExitCode::FAILURE
+            return ExitCode::FAILURE;
         }
-        Input::Read(n) => match report(&rt, &input[..n], &mut premiums) {
-            Ok(()) => ExitCode::SUCCESS,
-            Err(error) => unwritten(&rt, error),
-        },
+    };
+    match report(&rt, &input[..n], &mut premiums) {
+        Ok(()) => ExitCode::SUCCESS,
+        Err(error) => unwritten(&rt, error),
     }
 }

@@ -1,3 +1,2 @@
--- What the exported calls' answers come to, law by law, and that none of these calls answers 11.
-pub mod Exports
+-- None of the exported calls answers 11.
 pub mod Eleven

@@ -15,15 +15,9 @@ ghost use Rattle.discount.specs.Schedules.{layers_of};
 ghost use Rattle.retro_c.specs.Exported.{numbers, RateExported, TableExported, ReadExported, WriteExported};
 ghost use Rattle.retro_c.specs.Exported.{lent, CompareExported, ChargeExported, plan_lent, PlanExported};
 
-use charges::Charged;
 use discount::schedule::Schedule;
 use group::Header;
-use guaranteed::{Compared, compare};
-use premium_plans::Planned;
-use rating::rates::Rated;
-use reading::GroupRead;
-use tables::Tabled;
-use writing::writer::Written;
+use guaranteed::compare;
 
 // Read's answer: 0 or the refusal, n, the header values and the edition; where it is a refusal all else is 0.
 #[repr(C)]
@@ -60,8 +54,8 @@ pub extern "C" fn retro_rate(
         basic.new excess.new billed.new premiums.new }
 {
     match rating::rates::rate(file, premiums) {
-        Rated::Refused(k) => k,
-        Rated::Given(g) => {
+        Err(refusal) => refusal.into(),
+        Ok(g) => {
             *risks = g.risks;
             *basic = g.basic;
             *excess = g.excess;
@@ -83,8 +77,8 @@ pub extern "C" fn retro_table(
         charge.old charge.new savings.old savings.new }
 {
     match tables::table(file, entry_ratio) {
-        Tabled::Refused(k) => k,
-        Tabled::Given(t) => {
+        Err(refusal) => refusal.into(),
+        Ok(t) => {
             *charge = t.charge;
             *savings = t.savings;
             0
@@ -104,8 +98,8 @@ pub extern "C" fn retro_read(
         (buffers counts.new claims.new joined.new) }
 {
     match reading::read(file, counts, claims, joined) {
-        GroupRead::Refused(k) => RetroGroup {
-            refused: k,
+        Err(refusal) => RetroGroup {
+            refused: refusal.into(),
             risks: 0,
             loss_limit: 0,
             standard_premium: 0,
@@ -117,7 +111,7 @@ pub extern "C" fn retro_read(
             minimum_mark: 0,
             edition: 0,
         },
-        GroupRead::Given(g) => {
+        Ok(g) => {
             let v = g.header;
             RetroGroup {
                 refused: 0,
@@ -151,8 +145,8 @@ pub extern "C" fn retro_write(
         file.old result size.old size.new file.new }
 {
     match writing::writer::write(edition, header, counts, claims, joined, file) {
-        Written::Refused(k) => k,
-        Written::Length(n) => {
+        Err(refusal) => refusal.into(),
+        Ok(n) => {
             *size = n;
             0
         }
@@ -191,8 +185,8 @@ pub extern "C" fn retro_guaranteed(
         premiums.new differences.new }
 {
     match compare(file, schedule, premiums, differences) {
-        Compared::Refused(k) => k,
-        Compared::Given(g) => {
+        Err(refusal) => refusal.into(),
+        Ok(g) => {
             let rated = g.rated;
             let total = g.difference;
             *risks = rated.risks;
@@ -220,8 +214,8 @@ pub extern "C" fn retro_charge(
     ensures table { OnTableAfter (charge1965 column entry_ratio) column entry_ratio charge.new thousandths.new }
 {
     match charges::charge(column, entry_ratio) {
-        Charged::Refused(k) => k,
-        Charged::Given(t) => {
+        Err(refusal) => refusal.into(),
+        Ok(t) => {
             *charge = t.charge;
             *thousandths = t.thousandths;
             0
@@ -248,8 +242,8 @@ pub extern "C" fn retro_plan(
         made.new best.new short_of.new }
 {
     match premium_plans::plan(file, maximum, minimum, trials) {
-        Planned::Refused(k) => k,
-        Planned::Given(p) => {
+        Err(refusal) => refusal.into(),
+        Ok(p) => {
             let short = p.short_of;
             *made = p.made;
             *best = p.best;

@@ -2,23 +2,15 @@
 // each. What the lines must be is in the file `stdout`, worked out from documents 01, 02 and 001.
 #![tactic(auto)]
 
-use group::Header;
-use rating::rates::{Rated, rate};
-use reading::{GroupRead, read};
+use group::{Header, Refusal};
+use rating::rates::rate;
+use reading::read;
 use std::io;
-use tables::{Tabled, table};
-use writing::writer::{Written, write};
+use tables::table;
+use writing::writer::write;
 
-fn print(rt: &impl Print, text: &str) -> io::Result<()> {
-    print!(rt; "{text}")
-}
-
-fn print_next(rt: &impl Print, n: u64) -> io::Result<()> {
-    print!(rt; " {n}")
-}
-
-fn print_refused(rt: &impl Print, k: u32) -> io::Result<()> {
-    println!(rt; " refused {k}")
+fn print_refused(rt: &impl Print, refusal: Refusal) -> io::Result<()> {
+    println!(rt; " refused {refusal}")
 }
 
 // The first n bytes, or all where there are fewer.
@@ -31,18 +23,10 @@ fn print_line(rt: &impl Print, s: &[u8]) -> io::Result<()> {
     println!(rt)
 }
 
-fn wide(x: u8) -> u64 {
-    x as u64
-}
-
-fn print_number(rt: &impl Print, x: u32) -> io::Result<()> {
-    print_next(rt, x as u64)
-}
-
 // Bytes in hexadecimal.
 fn print_bytes(rt: &impl Print, s: &[u8]) -> io::Result<()> {
     for x in s {
-        print!(rt; "{:02x}", wide(*x))?;
+        print!(rt; "{x:02x}")?;
     }
     Ok(())
 }
@@ -50,7 +34,7 @@ fn print_bytes(rt: &impl Print, s: &[u8]) -> io::Result<()> {
 // Numbers, each after a space.
 fn print_numbers(rt: &impl Print, s: &[u32]) -> io::Result<()> {
     for x in s {
-        print_number(rt, *x)?;
+        print!(rt; " {x}")?;
     }
     Ok(())
 }
@@ -88,13 +72,13 @@ fn show_edition(
     joined: &[u8],
     out: &mut [u8],
 ) -> io::Result<usize> {
-    print(rt, label)?;
+    print!(rt; "{label}")?;
     match write(edition, h, counts, claims, joined, out) {
-        Written::Refused(k) => {
-            print_refused(rt, k)?;
+        Err(refusal) => {
+            print_refused(rt, refusal)?;
             Ok(0)
         }
-        Written::Length(n) => {
+        Ok(n) => {
             println!(rt; " length {n}")?;
             Ok(n)
         }
@@ -103,16 +87,11 @@ fn show_edition(
 
 // Rate: n, M, Q, the sum billed, then the bytes of the premiums.
 fn show_rate(rt: &impl Print, label: &str, file: &[u8], premiums: &mut [u8]) -> io::Result<()> {
-    print(rt, label)?;
+    print!(rt; "{label}")?;
     match rate(file, premiums) {
-        Rated::Refused(k) => print_refused(rt, k),
-        Rated::Given(g) => {
-            print(rt, " rated")?;
-            print_next(rt, g.risks as u64)?;
-            print_next(rt, g.basic)?;
-            print_next(rt, g.excess)?;
-            print_next(rt, g.billed)?;
-            print(rt, " ")?;
+        Err(refusal) => print_refused(rt, refusal),
+        Ok(g) => {
+            print!(rt; " rated {} {} {} {} ", g.risks, g.basic, g.excess, g.billed)?;
             print_line(rt, premiums)
         }
     }
@@ -120,27 +99,23 @@ fn show_rate(rt: &impl Print, label: &str, file: &[u8], premiums: &mut [u8]) -> 
 
 // Table: charge and savings.
 fn show_table(rt: &impl Print, label: &str, file: &[u8], r: u32) -> io::Result<()> {
-    print(rt, label)?;
-    print_next(rt, r as u64)?;
+    print!(rt; "{label} {r}")?;
     match table(file, r) {
-        Tabled::Refused(k) => print_refused(rt, k),
-        Tabled::Given(t) => { println!(rt; ": {} {}", t.charge, t.savings) }
+        Err(refusal) => print_refused(rt, refusal),
+        Ok(t) => { println!(rt; ": {} {}", t.charge, t.savings) }
     }
 }
 
 // The header values after the number of risks.
 fn print_header(rt: &impl Print, n: u32, v: Header) -> io::Result<()> {
-    print(rt, " read")?;
-    print_number(rt, n)?;
-    print_number(rt, v.loss_limit)?;
-    print_number(rt, v.standard_premium)?;
-    print_number(rt, v.expense)?;
-    print_number(rt, v.conversion)?;
-    print_number(rt, v.tax)?;
-    print_number(rt, v.mark_kind)?;
-    print_number(rt, v.maximum_mark)?;
-    print_number(rt, v.minimum_mark)?;
-    print(rt, " ")
+    print!(rt;
+        " read {n} {} {} {} {}",
+        v.loss_limit, v.standard_premium, v.expense, v.conversion
+    )?;
+    print!(rt;
+        " {} {} {} {} ",
+        v.tax, v.mark_kind, v.maximum_mark, v.minimum_mark
+    )
 }
 
 // Read: n and the header values, then the counts, then the claims, then the edition and the bits.
@@ -152,16 +127,14 @@ fn show_read(
     claims: &mut [u32],
     joined: &mut [u8],
 ) -> io::Result<()> {
-    print(rt, label)?;
+    print!(rt; "{label}")?;
     match read(file, counts, claims, joined) {
-        GroupRead::Refused(k) => print_refused(rt, k),
-        GroupRead::Given(g) => {
+        Err(refusal) => print_refused(rt, refusal),
+        Ok(g) => {
             print_header(rt, g.risks, g.header)?;
             print_line(rt, counts)?;
             print_numbers(rt, claims)?;
-            print(rt, "\n edition")?;
-            print_number(rt, g.edition)?;
-            print(rt, " ")?;
+            print!(rt; "\n edition {} ", g.edition)?;
             print_line(rt, joined)
         }
     }
