@@ -1,7 +1,7 @@
 -- The two loops of Read. After i claims of a risk their dollars are stored one behind another, and their bits likewise, by one law over
 -- the part of a claim; after i risks their counts, claims and bits fill the first entries of their buffers. Each law takes one claim, or
 -- one risk, more. Assumes nothing.
-use mathlib.Core.Path.{◌≡◌, refl, sym, ap, ap₂, ◌∙◌, subst}
+use mathlib.Core.Path.{◌≡◌, refl, sym, ap, ap₂, ◌∙◌}
 use mathlib.Core.List.{List, [], ◌∷◌, ◌++◌, map}
 use Rattle.std.proofs.lemmas.List.{append-nil}
 use Prim.Native.Nat.{ℕ, ◌+◌, ◌≤◌, ◌<◌}
