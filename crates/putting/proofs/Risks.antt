@@ -19,7 +19,7 @@ use Rattle.bits.proofs.Runs.{Putting, putting-as, putting-run}
 -- at the loop's head: the risks from i on are left to be put, with the claims and the bits that are left
 pub record Risks (s : List ℕ) (at edition : ℕ) (counts claims joined t : List ℕ) (q i : ℕ) (claims_left joined_left : List ℕ) : Type 0 where
   pub enough : sum (drop i counts) ≤ length claims_left
-  pub alike : length joined_left ≡ length claims_left
+  pub same_length : length joined_left ≡ length claims_left
   pub putting :
       Putting s at (slots_of_risks edition counts (claims_of joined claims)) t q
       (slots_of_risks edition (drop i counts) (claims_of joined_left claims_left))
@@ -35,6 +35,10 @@ module _ {s : List ℕ} {at edition : ℕ} {counts claims joined t : List ℕ} {
 
   counted : length own_claims ≡ k
   counted = ap length own_ds ∙ length-take-le k claims_left (omega (arith, there))
+
+  -- and as many bits
+  pub alike : length own_joined ≡ length own_claims
+  alike = ap length own_js ∙ length-take-le k joined_left (omega (arith, there, g.same_length)) ∙ sym counted
 
   -- the risk at i is the first of those left
   pub next : Putting s at (slots_of_risks edition counts (claims_of joined claims)) t q
@@ -57,6 +61,7 @@ module _ {s : List ℕ} {at edition : ℕ} {counts claims joined t : List ℕ} {
       → Risks s at edition counts claims joined u r (i + 1) later_claims later_joined
   goes_on x = record {
     enough = omega (arith, there, ap length later_ds, length-drop k claims_left);
-    alike = omega (arith, g.alike, ap length later_ds, ap length later_js, length-drop k claims_left, length-drop k joined_left);
+    same_length =
+        omega (arith, g.same_length, ap length later_ds, ap length later_js, length-drop k claims_left, length-drop k joined_left);
     putting = putting-run _ _ next x;
   }

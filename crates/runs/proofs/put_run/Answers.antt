@@ -7,7 +7,8 @@ use Rattle.plan.proofs.Claims.{width_is, width-le}
 use Rattle.bits.proofs.Runs.{room, putting-more, putting-ends}
 use Rattle.pairs.proofs.AsOne.{space-numbers, wrote-numbers}
 use Rattle.pairs.proofs.ByPairs.{pairs_start}
-use Rattle.runs.proofs.Run.{turn, turns, first-fit, second-fit, pair-fit, five, goes_on, room-of-byte, goes-on-past, all-put, last-fit, one_left}
+use Rattle.runs.proofs.Run.{turn, turns, first-fit, second-fit, pair-fit, five, goes_on}
+use Rattle.runs.proofs.Run.{room-of-byte, goes-on-past, all-put, last-fit, one_left}
 use Rattle.runs.proofs.put_run.Goals as goal
 
 pub loop-bit_pair-init : goal.loop-bit_pair-init
