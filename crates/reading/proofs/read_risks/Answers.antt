@@ -2,12 +2,9 @@
 use Rattle.std.proofs.Common.{arith, ◌≡◌, length, take}
 use lib.Seq.{length-take-le}
 use Rattle.plan.proofs.Risks.{count-le, first-claim}
-use Rattle.reading.proofs.Storing.{entries-room, place-most, claims-room, joined-room, storing-starts, storing-more}
+use Rattle.reading.proofs.Storing.{entries-room, place-most, claims-room, joined-room, storing-more}
 use Rattle.reading.proofs.Storing.{counts-stored}
 use Rattle.reading.proofs.read_risks.Goals as goal
-
-pub loop-entry-init : goal.loop-entry-init
-loop-entry-init c = storing-starts _ _ _ _ _
 
 pub count_at-count-requires : goal.count_at-count-requires
 count_at-count-requires c = place-most c.loop-entry.invariant (entries-room _ _ _ c.requires.risks_room) c.loop-entry-test.true
@@ -63,15 +60,3 @@ returns-clause-counted c =
     let all : length (take c.args.risks c.args.counts.now) ≡ c.args.risks = length-take-le _ _ c.requires.risks_room.counts in
     let n : c.loop-entry.entry-index ≡ c.args.risks = omega (arith, all) in
     counts-stored c.args.file.now c.args.place.at c.args.risks c.args.counts.now n c.loop-entry.invariant.counts_are
-
-pub returns-clause-claimed : goal.returns-clause-claimed
-returns-clause-claimed c =
-    let all : length (take c.args.risks c.args.counts.now) ≡ c.args.risks = length-take-le _ _ c.requires.risks_room.counts in
-    let n : c.loop-entry.entry-index ≡ c.args.risks = omega (arith, all) in
-    rw n at c.loop-entry.invariant.claims_are
-
-pub returns-clause-joining : goal.returns-clause-joining
-returns-clause-joining c =
-    let all : length (take c.args.risks c.args.counts.now) ≡ c.args.risks = length-take-le _ _ c.requires.risks_room.counts in
-    let n : c.loop-entry.entry-index ≡ c.args.risks = omega (arith, all) in
-    rw n at c.loop-entry.invariant.joined_are
