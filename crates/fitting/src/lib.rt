@@ -12,7 +12,7 @@ ghost use Rattle.plan.specs.Risk.{count_width};
 ghost use Rattle.plan.specs.Questions.{ask, header_fits, question15};
 ghost use Rattle.group.specs.Values.{header_is};
 ghost use Rattle.putting.specs.Putting.{given_group};
-ghost use Rattle.fitting.specs.Fitting.{FitsAsBoth, OpensSays, OpenSays};
+ghost use Rattle.fitting.specs.Fitting.{OpensSays, OpenSays};
 
 use claims::claim::{dollars_fit, joined_fits};
 use group::{Header, MOST_CLAIMS, MOST_RISKS};
@@ -50,17 +50,9 @@ fn counts_add(counts: &[u8], claims: usize) -> bool
     requires { length counts.now ≤ most_risks }
     ensures { result ≡ (all_fit count_width counts.now && eqb (sum counts.now) claims) }
 {
-    let mut total = 0;
-    let mut i = 0;
-    while i < counts.len() {
-        let count = counts[i] as usize;
-        if count > MOST_CLAIMS as usize {
-            return false;
-        }
-        total += count;
-        i += 1;
-    }
-    total == claims
+    let fit = counts.iter().all(|&count| u32::from(count) <= MOST_CLAIMS);
+    let total: usize = counts.iter().map(|&count| usize::from(count)).sum();
+    fit & (total == claims)
 }
 
 // Whether the dollars of the claims fit their width. All are looked at: a loop without another way out can compile to one over
@@ -68,20 +60,9 @@ fn counts_add(counts: &[u8], claims: usize) -> bool
 fn claims_fit(claims: &[u32]) -> bool
     ensures { result ≡ all_fit dollars_width claims.now }
 {
-    let mut fit = true;
-    let mut i = 0;
-    while i < claims.len() {
-        fit = fit & dollars_fit(claims[i]);
-        i += 1;
-    }
-    fit
-}
-
-// The greater of two bytes: it fits where both do.
-fn greater(a: u8, b: u8) -> u8
-    ensures { FitsAsBoth a b result }
-{
-    if a < b { b } else { a }
+    claims
+        .iter()
+        .fold(true, |fit, &dollars| fit & dollars_fit(dollars))
 }
 
 // Whether the bits of the claims fit their width in an edition: where that is no bits, each is 0. The greatest is looked for in a
@@ -89,13 +70,8 @@ fn greater(a: u8, b: u8) -> u8
 fn joined_fit(edition: u32, joined: &[u8]) -> bool
     ensures { result ≡ all_fit (joined_width edition) joined.now }
 {
-    let mut most = 0;
-    let mut i = 0;
-    while i < joined.len() {
-        most = greater(most, joined[i]);
-        i += 1;
-    }
-    joined_fits(edition, most as u32)
+    let most = joined.iter().fold(0, |most: u8, &bit| most.max(bit));
+    joined_fits(edition, u32::from(most))
 }
 
 // Question 15. Claims are looked at only where there are as many as the counts add to, and bits where there are as many as
@@ -128,10 +104,7 @@ pub fn values_fit(
 fn risk_opens(joined: &[u8]) -> bool
     ensures { OpensSays joined.now result }
 {
-    if joined.len() == 0 {
-        return true;
-    }
-    joined[0] == 0
+    joined.first().is_none_or(|&bit| bit == 0)
 }
 
 // Question 19, of as many bits as the counts take.
@@ -140,13 +113,11 @@ pub fn risks_open(counts: &[u8], joined: &[u8]) -> bool
     ensures { OpenSays counts.now joined.now result }
 {
     let mut all = true;
-    let mut i = 0;
-    let mut first = 0;
-    while i < counts.len() {
-        let past = first + counts[i] as usize;
-        all = all & risk_opens(&joined[first..past]);
-        first = past;
-        i += 1;
+    let mut rest = joined;
+    for &count in counts {
+        let (own, after) = rest.split_at(usize::from(count));
+        all &= risk_opens(own);
+        rest = after;
     }
     all
 }

@@ -1,6 +1,6 @@
 -- A claim's two fields are as well one field, of both widths, whose number is the bit with the dollars' bits after it. So claims
 -- may be put as one field each; where the bit's field has no bits these are the dollars alone. Assumes nothing.
-use mathlib.Core.Path.{◌≡◌, refl, sym, ap, ap₂, subst}
+use mathlib.Core.Path.{◌≡◌, refl, ap, ap₂}
 use mathlib.Core.List.{List, [], ◌∷◌, map}
 use Prim.Native.Nat.{ℕ, zero, suc, ◌+◌, ◌*◌, ◌^◌, ◌<◌}
 use native.Mathlib.Omega.{arith}
@@ -34,7 +34,7 @@ value-at (j ∷ js) (d ∷ ds) (suc i) e h = value-at js ds i (omega arith) (ome
 
 module _ (edition : ℕ) where
   -- the bits of both fields
-  abbrev both : ℕ
+  abbrev pub both : ℕ
   both = joined_width edition + dollars_width
 
   abbrev ones : List Claim → List Slot
@@ -55,7 +55,7 @@ module _ (edition : ℕ) where
   ones-fit (claim j d ∷ cs) f =
       (joined-lt (joined_width edition) dollars_width both f.0 f.1.0 (omega arith), ones-fit cs f.1.1)
 
-  pub space-as-one : {s : List ℕ} {at : ℕ} (cs : List Claim) → Space s at (slots_of_claims edition cs) → Space s at (ones cs)
+  space-as-one : {s : List ℕ} {at : ℕ} (cs : List Claim) → Space s at (slots_of_claims edition cs) → Space s at (ones cs)
   space-as-one cs p = record {
     within = omega (arith, p.within, same_width cs);
     reach = omega (arith, p.reach, same_width cs);
@@ -73,7 +73,7 @@ module _ (edition : ℕ) where
       let x = laid-two s at w j dollars_width d (ones cs) f.1.0 l in
       (x.0, (x.1.0, ones-laid s (at + w + dollars_width) cs f.1.1 x.1.1))
 
-  pub wrote-as-one : {s t : List ℕ} {at q : ℕ} (cs : List Claim) → Space s at (slots_of_claims edition cs)
+  wrote-as-one : {s t : List ℕ} {at q : ℕ} (cs : List Claim) → Space s at (slots_of_claims edition cs)
       → Wrote s at (ones cs) t q → Wrote s at (slots_of_claims edition cs) t q
   wrote-as-one {s} {t} {at} {q} cs p x = record {
     same = x.same;
@@ -83,29 +83,23 @@ module _ (edition : ℕ) where
     after = x.after;
   }
 
-  -- ---- where the bit's field has no bits
+  -- ---- the same of numbers of as many bits
 
-  plain : joined_width edition ≡ 0 → (js ds : List ℕ) → length js ≡ length ds → Fitting (slots_of_claims edition (claims_of js ds))
-      → ones (claims_of js ds) ≡ slots dollars_width ds
-  unfolding slots_of_claim
-  plain z [] [] e f = refl
-  plain z [] (d ∷ ds) e f = absurd (omega arith)
-  plain z (j ∷ js) [] e f = absurd (omega arith)
-  plain z (j ∷ js) (d ∷ ds) e f =
-      let none : j < 2 ^ 0 = subst (λ (w : ℕ). j < 2 ^ w) z f.0 in
-      let width : both ≡ dollars_width = ap (λ (w : ℕ). w + dollars_width) z in
-      let is : j * 2 ^ dollars_width + d ≡ d = omega (arith, none) in
-      ap₂ ◌∷◌ (ap₂ slot width is) (plain z js ds (omega arith) f.1.1)
-
-  module _ {s : List ℕ} {at : ℕ} (js ds : List ℕ) (z : joined_width edition ≡ 0) (e : length js ≡ length ds)
+  module _ {s : List ℕ} {at : ℕ} (js ds : List ℕ) {w : ℕ} (width : w ≡ both)
       (p : Space s at (slots_of_claims edition (claims_of js ds))) where
-    pub space-plain : Space s at (slots dollars_width ds)
-    space-plain = subst (Space s at) (plain z js ds e p.fitting) (space-as-one (claims_of js ds) p)
+    pub space-numbers : Space s at (slots w (values js ds))
+    space-numbers = rw width (space-as-one (claims_of js ds) p)
 
-    pub wrote-plain : {t : List ℕ} {q : ℕ} → Wrote s at (slots dollars_width ds) t q
+    pub wrote-numbers : {t : List ℕ} {q : ℕ} → Wrote s at (slots w (values js ds)) t q
         → Wrote s at (slots_of_claims edition (claims_of js ds)) t q
-    wrote-plain {t} {q} x =
-        wrote-as-one (claims_of js ds) p (subst (λ (fs : List Slot). Wrote s at fs t q) (sym (plain z js ds e p.fitting)) x)
+    wrote-numbers x = wrote-as-one (claims_of js ds) p (rw width at x)
+
+-- the fields are those of any edition whose claims have as many bits before their dollars
+pub slots-by-width : (e f : ℕ) → joined_width e ≡ joined_width f → (cs : List Claim) → slots_of_claims e cs ≡ slots_of_claims f cs
+unfolding slots_of_claim
+slots-by-width e f z [] = refl
+slots-by-width e f z (claim j d ∷ cs) =
+    ap₂ (λ (w : ℕ) (fs : List Slot). slot w j ∷ slot dollars_width d ∷ fs) z (slots-by-width e f z cs)
 
 -- each claim's bit and dollars fit their fields
 pub both-fit : (edition : ℕ) (js ds : List ℕ) (i : ℕ) → length js ≡ length ds → i < length ds

@@ -2,7 +2,7 @@
 // next, are five bytes to store. In edition 1 two claims are five whole bytes, so every pair of a run begins at the same bit of its
 // byte. In edition 2 two claims have two bits more: after a pair two more are held than before it, and where these are eight or more,
 // one more byte is stored. What a pair stored is not looked at again. Here are a claim and a pair as one number, and the laws of the
-// loops over pairs; the loops are in `dollars` and `runs`.
+// loop over pairs; the loop is in `runs`.
 #![tactic(auto)]
 
 ghost use Rattle.std.specs.Prelude.{◌≡◌, ◌+◌, ◌*◌, ◌^◌, ◌≤◌, ◌<◌};

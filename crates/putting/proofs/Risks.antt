@@ -1,11 +1,11 @@
 -- Risks put one after another: the risk at i is the first of those left, and its claims are the first of
 -- the claims left.
-use mathlib.Core.Path.{◌≡◌, refl, sym, ap, ap₂, ◌∙◌}
+use mathlib.Core.Path.{◌≡◌, sym, ap, ap₂, ◌∙◌}
 use mathlib.Core.List.{List, ◌∷◌, ◌++◌}
-use Prim.Native.Nat.{ℕ, ◌+◌, ◌-◌, ◌≤◌, ◌<◌}
+use Prim.Native.Nat.{ℕ, ◌+◌, ◌≤◌, ◌<◌}
 use native.Mathlib.Omega.{arith}
 use lib.ListN.{length, get_or, take, drop, length-drop}
-use lib.Seq.{drop-drop, length-take-le}
+use lib.Seq.{length-take-le}
 use Rattle.plan.specs.Arithmetic.{sum}
 use Rattle.plan.specs.Field.{slot}
 use Rattle.plan.specs.Claim.{Claim, slots_of_claims, claims_of}
@@ -16,57 +16,52 @@ use Rattle.plan.proofs.Rests.{rest_more}
 use Rattle.plan.proofs.Claims.{take-claims-of, drop-claims-of}
 use Rattle.bits.proofs.Runs.{Putting, putting-as, putting-run}
 
--- at the loop's head
-pub record Risks (s : List ℕ) (at edition : ℕ) (counts claims joined t : List ℕ) (q i first : ℕ) : Type 0 where
-  pub within : i ≤ length counts
-  pub enough : first + sum (drop i counts) ≤ length claims
+-- at the loop's head: the risks from i on are left to be put, with the claims and the bits that are left
+pub record Risks (s : List ℕ) (at edition : ℕ) (counts claims joined t : List ℕ) (q i : ℕ) (claims_left joined_left : List ℕ) : Type 0 where
+  pub enough : sum (drop i counts) ≤ length claims_left
+  pub same_length : length joined_left ≡ length claims_left
   pub putting :
       Putting s at (slots_of_risks edition counts (claims_of joined claims)) t q
-      (slots_of_risks edition (drop i counts) (drop first (claims_of joined claims)))
+      (slots_of_risks edition (drop i counts) (claims_of joined_left claims_left))
 
--- of the risk at i, the dollars or the bits of its claims: as many as its count says
-abbrev pub own : List ℕ → List ℕ → ℕ → ℕ → List ℕ
-own counts xs i first = take (first + get_or counts i 0 - first) (drop first xs)
+module _ {s : List ℕ} {at edition : ℕ} {counts claims joined t : List ℕ} {q i : ℕ} {claims_left joined_left : List ℕ}
+    (g : Risks s at edition counts claims joined t q i claims_left joined_left) (h : i < length counts)
+    -- as many claims as the risk's count says, and as many bits, are cut off those left
+    {k : ℕ} {own_claims later_claims own_joined later_joined : List ℕ} (is : k ≡ get_or counts i 0)
+    (own_ds : own_claims ≡ take k claims_left) (later_ds : later_claims ≡ drop k claims_left)
+    (own_js : own_joined ≡ take k joined_left) (later_js : later_joined ≡ drop k joined_left) where
+  there : k + sum (drop (i + 1) counts) ≤ length claims_left
+  there = omega (arith, is, g.enough, ap sum (rest_more counts i h))
 
-module _ {s : List ℕ} {at edition : ℕ} {counts claims joined t : List ℕ} {q i first : ℕ}
-    (g : Risks s at edition counts claims joined t q i first) (h : i < length counts) where
-  -- there are as many claims
-  pub there : first + get_or counts i 0 + sum (drop (i + 1) counts) ≤ length claims
-  there = omega (arith, g.enough, ap sum (rest_more counts i h))
-
-  counted : (xs : List ℕ) → length xs ≡ length claims → length (own counts xs i first) ≡ get_or counts i 0
-  counted xs e =
-      length-take-le (first + get_or counts i 0 - first) (drop first xs)
-      (omega (arith, there, length-drop first xs, e))
-      ∙ omega arith
+  counted : length own_claims ≡ k
+  counted = ap length own_ds ∙ length-take-le k claims_left (omega (arith, there))
 
   -- and as many bits
-  pub alike : length joined ≡ length claims
-      → length (own counts joined i first) ≡ length (own counts claims i first)
-  alike e = counted joined e ∙ sym (counted claims refl)
+  pub alike : length own_joined ≡ length own_claims
+  alike = ap length own_js ∙ length-take-le k joined_left (omega (arith, there, g.same_length)) ∙ sym counted
 
-  -- the risk at i is the first of the rest
+  -- the risk at i is the first of those left
   pub next : Putting s at (slots_of_risks edition counts (claims_of joined claims)) t q
-      (slots_of_risk edition (own counts joined i first) (own counts claims i first)
-      ++ slots_of_risks edition (drop (i + 1) counts) (drop (first + get_or counts i 0) (claims_of joined claims)))
+      (slots_of_risk edition own_joined own_claims
+      ++ slots_of_risks edition (drop (i + 1) counts) (claims_of later_joined later_claims))
   next =
-      let k : ℕ = get_or counts i 0 in
       let ks : List ℕ = drop (i + 1) counts in
-      let cs : List Claim = claims_of joined claims in
-      let same : k ≡ first + k - first = omega arith in
-      let js : List ℕ = own counts joined i first in
-      let ds : List ℕ = own counts claims i first in
-      let its : take k (drop first cs) ≡ claims_of js ds =
-      ap₂ take same (drop-claims-of first joined claims)
-      ∙ take-claims-of (first + k - first) (drop first joined) (drop first claims) in
+      let cs : List Claim = claims_of joined_left claims_left in
+      let own : take k cs ≡ claims_of own_joined own_claims =
+      take-claims-of k joined_left claims_left ∙ ap₂ claims_of (sym own_js) (sym own_ds) in
+      let later : drop k cs ≡ claims_of later_joined later_claims =
+      drop-claims-of k joined_left claims_left ∙ ap₂ claims_of (sym later_js) (sym later_ds) in
       putting-as g.putting
-      (ap (λ (l : List ℕ). slots_of_risks edition l (drop first cs)) (rest_more counts i h)
-      ∙ ap₂ (λ (x : ℕ) (l : List Claim). slot count_width x
-      ∷ (slots_of_claims edition l ++ slots_of_risks edition ks (drop k (drop first cs))))
-      (sym (counted claims refl)) its
-      ∙ ap (λ (l : List Claim). slots_of_risk edition js ds ++ slots_of_risks edition ks l) (drop-drop k first cs))
+      (ap (λ (l : List ℕ). slots_of_risks edition l cs) (rest_more counts i h ∙ ap (λ (n : ℕ). n ∷ ks) (sym is))
+      ∙ ap₂ (λ (n : ℕ) (l : List Claim). slot count_width n ∷ (slots_of_claims edition l ++ slots_of_risks edition ks (drop k cs)))
+      (sym counted) own
+      ∙ ap (λ (l : List Claim). slots_of_risk edition own_joined own_claims ++ slots_of_risks edition ks l) later)
 
-  pub goes_on : {u : List ℕ} {r : ℕ}
-      → Wrote t q (slots_of_risk edition (own counts joined i first) (own counts claims i first)) u r
-      → Risks s at edition counts claims joined u r (i + 1) (first + get_or counts i 0)
-  goes_on x = record { within = omega arith; enough = there; putting = putting-run _ _ next x }
+  pub goes_on : {u : List ℕ} {r : ℕ} → Wrote t q (slots_of_risk edition own_joined own_claims) u r
+      → Risks s at edition counts claims joined u r (i + 1) later_claims later_joined
+  goes_on x = record {
+    enough = omega (arith, there, ap length later_ds, length-drop k claims_left);
+    same_length =
+        omega (arith, g.same_length, ap length later_ds, ap length later_js, length-drop k claims_left, length-drop k joined_left);
+    putting = putting-run _ _ next x;
+  }

@@ -69,6 +69,10 @@ module _ {g : Group} {out : List ℕ} {n : ℕ} (r : Ready g out n) where
         → Putting out 0 (file_slots g) u q risks
     after_last y = putting-run (last_slots g.header (length g.counts)) risks after_first y
 
+    pub fields-wrote : {u v : List ℕ} {q r : ℕ} → Wrote t p (last_slots g.header (length g.counts)) u q → Wrote u q risks v r
+        → Wrote out 0 (file_slots g) v r
+    fields-wrote y z = (after_last y).left z
+
   -- ---- the fill: part of a byte
 
   module _ {t : List ℕ} {q : ℕ} (x : Wrote out 0 (file_slots g) t q) where

@@ -80,19 +80,15 @@ fn put_risks(
         out.new result.at }
 {
     let mut next = place;
-    let mut i = 0;
-    let mut first = 0;
-    while i < counts.len() {
-        let past = first + counts[i] as usize;
-        next = put_risk(
-            out,
-            next,
-            edition,
-            &joined[first..past],
-            &claims[first..past],
-        );
-        first = past;
-        i += 1;
+    let mut claims_left = claims;
+    let mut joined_left = joined;
+    for &count in counts {
+        let k = usize::from(count);
+        let (own_claims, later_claims) = claims_left.split_at(k);
+        let (own_joined, later_joined) = joined_left.split_at(k);
+        next = put_risk(out, next, edition, own_joined, own_claims);
+        claims_left = later_claims;
+        joined_left = later_joined;
     }
     next
 }

@@ -2,12 +2,13 @@
 -- the part of a claim; after i risks their counts, claims and bits fill the first entries of their buffers. Each law takes one claim, or
 -- one risk, more. Assumes nothing.
 use mathlib.Core.Path.{◌≡◌, refl, sym, ap, ap₂, ◌∙◌}
-use mathlib.Core.List.{List, [], ◌∷◌, map}
+use mathlib.Core.List.{List, [], ◌∷◌, ◌++◌, map}
+use Rattle.std.proofs.lemmas.List.{append-nil}
 use Prim.Native.Nat.{ℕ, ◌+◌, ◌≤◌, ◌<◌}
 use native.Mathlib.Numerals.{add-one}
 use native.Mathlib.Omega.{arith}
-use lib.ListN.{length, get_or, set, length-set, length-map}
-use lib.Seq.{paste, paste-zero, paste-suc}
+use lib.ListN.{length, get_or, set, take, drop, length-set, length-map, length-take, drop_of_length-le}
+use lib.Seq.{paste, paste-zero, paste-suc, length-take-le}
 use Rattle.plan.specs.Arithmetic.{sum}
 use Rattle.plan.specs.Sizes.{most_file_bits}
 use Rattle.plan.specs.Claim.{Claim, dollars, claim_at, claims_from, past_claims}
@@ -69,6 +70,33 @@ storing-starts s at old_counts old_claims old_joined = record {
   claims_are = filled_none old_claims;
   joined_are = filled_none old_joined;
 }
+
+-- the entries for their counts are as many as the risks
+pub entries-room : {s : List ℕ} {at n : ℕ} (counts claims joined : List ℕ)
+    → RisksRoom s at n (length counts) (length claims) (length joined)
+    → RisksRoom s at (length (take n counts)) (length (take n counts)) (length claims) (length joined)
+entries-room {n} counts claims joined room = rw (length-take-le n counts room.counts) (record {
+  place = room.place;
+  few = room.few;
+  counts = omega arith;
+  claims = room.claims;
+  joined = room.joined;
+})
+
+-- filled, they are the first of the buffer
+filled_front : (new old : List ℕ) (n : ℕ) → length new ≡ n → filled new (take n old) ++ drop n old ≡ filled new old
+filled_front new old n e =
+    let none : drop (length new) (take n old) ≡ [] = drop_of_length-le (take n old) (omega (arith, e, length-take n old)) in
+    ap (λ (l : List ℕ). (new ++ l) ++ drop n old) none
+    ∙ ap (λ (l : List ℕ). l ++ drop n old) (append-nil new)
+    ∙ ap (λ (k : ℕ). new ++ drop k old) (sym e)
+
+-- the counts of all risks, read into the entries for them
+pub counts-stored : (s : List ℕ) (at n : ℕ) (old : List ℕ) {i : ℕ} {entries : List ℕ} → i ≡ n
+    → entries ≡ filled (counts_from s at i) (take n old) → entries ++ drop n old ≡ filled (counts_from s at n) old
+counts-stored s at n old e is =
+    ap (λ (l : List ℕ). l ++ drop n old) (is ∙ ap (λ (k : ℕ). filled (counts_from s at k) (take n old)) e)
+    ∙ filled_front (counts_from s at n) old n (length-counts s at n)
 
 module _ {s : List ℕ} {at n : ℕ} {old_counts old_claims old_joined : List ℕ} {i p from : ℕ} {counts claims joined : List ℕ}
     (w : Storing s at old_counts old_claims old_joined i p from counts claims joined)

@@ -45,15 +45,12 @@ fn read_claims(
         ≡ paste joined.old from (map bit (claims_from file.now place.at count)) count }
 {
     let reach = reach_of(place, count);
-    let k = count as usize;
     let mut next = place;
-    let mut i: usize = 0;
-    while i < k {
+    for i in 0..count as usize {
         let claim = claim_at(file, next, edition, reach);
         claims[from + i] = claim.dollars;
         joined[from + i] = claim.joined as u8;
         next = claim.next;
-        i += 1;
     }
     next
 }
@@ -79,14 +76,12 @@ fn read_risks(
 {
     let mut next = place;
     let mut from: usize = 0;
-    let mut i: usize = 0;
-    while i < risks {
+    for entry in &mut counts[..risks] {
         let count = count_at(file, next);
         let k = count.value;
-        counts[i] = k as u8;
+        *entry = k as u8;
         next = read_claims(file, count.next, k, edition, claims, joined, from);
         from += k as usize;
-        i += 1;
     }
 }
 

@@ -1,2 +1,2 @@
--- The laws of the loop over claims with bits.
-pub mod Joined
+-- The laws of the loop over pairs of claims.
+pub mod Run

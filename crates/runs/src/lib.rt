@@ -1,45 +1,59 @@
-// A run of claims of either edition put: those with bits by pairs, each pair as five bytes and two bits more to be held, and those
-// without by the crate `dollars`. The places in the loop are made of a byte's number, so that each is seen to begin with a byte: whole
-// bytes are then stored without a look at the bit.
+// A run of claims of either edition put by pairs: each pair as five whole bytes, and in edition 2 two bits more to be held. One loop is
+// for both; its edition is a const parameter, so that it compiles to one for each. The places in it are made of a byte's number, so that
+// each is seen to begin with a byte: whole bytes are then stored without a look at the bit.
 #![tactic(auto)]
 
-ghost use Rattle.std.specs.Prelude.{◌≡◌, length};
-ghost use Rattle.plan.specs.Claim.{slots_of_claims, claims_of};
+ghost use Rattle.std.specs.Prelude.{◌≡◌, ◌+◌, ◌*◌, ◌^◌, ◌<◌, length};
+ghost use Rattle.plan.specs.Claim.{joined_width, dollars_width, slots_of_claims, claims_of};
 ghost use Rattle.bits.specs.Runs.{Space, Wrote};
 
 use bits::BitPlace;
-use claims::claim::{JOINING_EDITION, MOST_CLAIM_WIDTH};
-use dollars::put_dollars;
+use claims::claim::{JOINING_EDITION, SINGLE_EDITION, claim_width};
 use pairs::{PAIR_BYTES, as_one, pair_after};
 use words::extract;
 
 // Bits of a byte.
 const BYTE_WIDTH: u32 = 8;
 
-// How many bits more a pair of claims with bits has than `PAIR_BYTES` bytes.
-const PAIR_MORE: u32 = 2;
+// A claim of an edition as one number: of edition 1 its dollars alone, without a look at its bit.
+fn number_of<const EDITION: u32>(joined: u8, dollars: u32) -> u32
+    requires { (joined < 2 ^ joined_width EDITION) × (dollars < 2 ^ dollars_width) }
+    ensures { result ≡ joined * 2 ^ dollars_width + dollars }
+{
+    if EDITION == JOINING_EDITION {
+        as_one(joined, dollars)
+    } else {
+        dollars
+    }
+}
 
-// Puts claims, each with the bit before it, and gives the place after them.
-fn put_joined(out: &mut [u8], place: BitPlace, joined: &[u8], claims: &[u32]) -> BitPlace
-    requires space { Space out.old place.at (slots_of_claims 2 (claims_of joined.now claims.now)) }
+// Puts claims, each with its bit before it, and gives the place after them.
+fn put_run<const EDITION: u32>(
+    out: &mut [u8],
+    place: BitPlace,
+    joined: &[u8],
+    claims: &[u32],
+) -> BitPlace
+    requires space { Space out.old place.at (slots_of_claims EDITION (claims_of joined.now claims.now)) }
     requires joined_len { length joined.now ≡ length claims.now }
-    ensures { Wrote out.old place.at (slots_of_claims 2 (claims_of joined.now claims.now))
+    ensures { Wrote out.old place.at (slots_of_claims EDITION (claims_of joined.now claims.now))
         out.new result.at }
 {
+    let width = claim_width(EDITION);
     let mut bits = (place.at % 8) as u32;
     let mut byte = place.at / 8;
     let begun = BitPlace { at: 8 * byte }.take(out, bits);
     let mut held = begun.value as u64;
-    let mut i = 0;
-    while i + 1 < claims.len() {
-        let one = as_one(joined[i], claims[i]);
-        let two = as_one(joined[i + 1], claims[i + 1]);
-        let word = pair_after(held, MOST_CLAIM_WIDTH, one, two);
-        bits += PAIR_MORE;
+    let (bit_pairs, last_bit) = joined.as_chunks::<2>();
+    let (claim_pairs, last_claim) = claims.as_chunks::<2>();
+    for (bit_pair, claim_pair) in bit_pairs.iter().zip(claim_pairs) {
+        let one = number_of::<EDITION>(bit_pair[0], claim_pair[0]);
+        let two = number_of::<EDITION>(bit_pair[1], claim_pair[1]);
+        let word = pair_after(held, width, one, two);
+        bits = bits + 2 * width - BYTE_WIDTH * PAIR_BYTES as u32;
         BitPlace { at: 8 * byte }.put_five(out, word >> bits);
         held = extract(word, 0, bits);
         byte += PAIR_BYTES;
-        i += 2;
         if BYTE_WIDTH <= bits {
             bits -= BYTE_WIDTH;
             BitPlace { at: 8 * byte }.put(out, BYTE_WIDTH, (held >> bits) as u32);
@@ -48,10 +62,11 @@ fn put_joined(out: &mut [u8], place: BitPlace, joined: &[u8], claims: &[u32]) ->
         }
     }
     let next = BitPlace { at: 8 * byte }.put(out, bits, held as u32);
-    if i < joined.len() {
-        return next.put(out, MOST_CLAIM_WIDTH, as_one(joined[i], claims[i]));
+    if last_claim.is_empty() {
+        return next;
     }
-    next
+    let last = number_of::<EDITION>(last_bit[0], last_claim[0]);
+    next.put(out, width, last)
 }
 
 // Puts claims of an edition, and gives the place after them.
@@ -68,7 +83,7 @@ pub fn put_claims(
         (slots_of_claims edition (claims_of joined.now claims.now)) out.new result.at }
 {
     if edition == JOINING_EDITION {
-        return put_joined(out, place, joined, claims);
+        return put_run::<JOINING_EDITION>(out, place, joined, claims);
     }
-    put_dollars(out, place, claims)
+    put_run::<SINGLE_EDITION>(out, place, joined, claims)
 }

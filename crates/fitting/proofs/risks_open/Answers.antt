@@ -1,6 +1,8 @@
--- A turn asks the risk at i.
+-- A turn asks the first risk of those left.
 use Rattle.fitting.proofs.Opening.{goes_on}
 use Rattle.fitting.proofs.risks_open.Goals as goal
 
-pub loop-i-preserved : goal.loop-i-preserved
-loop-i-preserved c = goes_on c.loop-i.invariant c.loop-i-test.true c.risk_opens-all.ensures
+pub loop-count-preserved : goal.loop-count-preserved
+loop-count-preserved c =
+    let p = c.split_at.ensures in
+    goes_on c.loop-count.invariant c.loop-count-test.true c.from.ensures p.front p.back c.risk_opens-all.ensures

@@ -7,7 +7,7 @@ use lib.ListN.{get_or}
 use Rattle.bits.proofs.WholeBytes.{fields-put}
 use Rattle.plan.specs.File.{file_slots}
 use Rattle.putting.specs.Putting.{given_group}
-use Rattle.putting.proofs.Runs.{sound, bytes, enough, small, space, first-space, last-space, after_last}
+use Rattle.putting.proofs.Runs.{sound, bytes, enough, small, space, first-space, last-space, after_last, fields-wrote}
 use Rattle.putting.proofs.Runs.{fill-starts, fill-small, fill-room}
 use Rattle.putting.proofs.put_file.Goals as goal
 
@@ -32,26 +32,26 @@ overflow_mul-fill c = record { fits = omega (arith, small c.requires) }
 pub overflow_sub-fill : goal.overflow_sub-fill
 overflow_sub-fill c =
     let p = c.requires in
-    let x = (after_last p c.put_first-first.ensures c.put_last-last.ensures).left c.put_risks-end.ensures in
+    let x = fields-wrote p c.put_first-first.ensures c.put_last-last.ensures c.put_risks-end.ensures in
     fill-starts p x
 
 pub overflow_cast-fill : goal.overflow_cast-fill
 overflow_cast-fill c =
     let p = c.requires in
-    let x = (after_last p c.put_first-first.ensures c.put_last-last.ensures).left c.put_risks-end.ensures in
+    let x = fields-wrote p c.put_first-first.ensures c.put_last-last.ensures c.put_risks-end.ensures in
     record { fits = omega (arith, fill-small p x) }
 
 pub put-requires : goal.put-requires
 put-requires c =
     let p = c.requires in
-    let x = (after_last p c.put_first-first.ensures c.put_last-last.ensures).left c.put_risks-end.ensures in
+    let x = fields-wrote p c.put_first-first.ensures c.put_last-last.ensures c.put_risks-end.ensures in
     fill-room p x
 
 pub returns : goal.returns
 returns c =
     let p = c.requires in
     let a = c.args in
-    let x = (after_last p c.put_first-first.ensures c.put_last-last.ensures).left c.put_risks-end.ensures in
+    let x = fields-wrote p c.put_first-first.ensures c.put_last-last.ensures c.put_risks-end.ensures in
     let was : (i : ℕ) → get_or a.out.now i 0 < 256 = search rules in
     fields-put (file_slots (given_group a.edition a.header a.counts.now a.claims.now a.joined.now))
     (space p).fitting was (λ i. (c.type_inv.out i).fits) x c.put.ensures.put (bytes p) (enough p)

@@ -8,7 +8,7 @@ use Rattle.reading.proofs.read_claims.Goals as goal
 
 pub claim_at-claim-requires : goal.claim_at-claim-requires
 claim_at-claim-requires c =
-    (next-reach c.args.file.now c.loop-i.invariant.1 c.loop-i-test.true c.reach_of-reach.ensures, c.requires.run_reach.1)
+    (next-reach c.args.file.now c.loop-i.invariant.0 c.loop-i-test.true c.reach_of-reach.ensures, c.requires.run_reach.1)
 
 pub overflow_cast-joined : goal.overflow_cast-joined
 overflow_cast-joined c = omega (arith, c.claim_at-claim.ensures.bit, joined-le c.args.file.now c.loop-i.next.at)
@@ -19,8 +19,7 @@ loop-i-preserved c =
     let w = c.loop-i.invariant in
     let x = c.claim_at-claim.ensures in
     let room = c.requires.count_in_bounds in (
-      omega (arith, c.loop-i-test.true),
-      x.next ∙ ap (plan.past_claim s) w.1 ∙ sym (past_more s c.args.place.at c.loop-i.i),
-      copying-more w.2 w.1 x.is c.loop-i-test.true room.0,
-      copying-more w.3 w.1 x.bit c.loop-i-test.true room.1,
+      x.next ∙ ap (plan.past_claim s) w.0 ∙ sym (past_more s c.args.place.at c.loop-i.i),
+      copying-more w.1 w.0 x.is c.loop-i-test.true room.0,
+      copying-more w.2 w.0 x.bit c.loop-i-test.true room.1,
     )

@@ -1,6 +1,6 @@
 -- The claims passed are stored, their dollars in the one buffer and their bits in the other, and the place is where they
--- end. The measure is the claims to come.
-use Rattle.std.proofs.Common.{◌-◌, ◌≡◌, ◌≤◌}
+-- end.
+use Rattle.std.proofs.Common.{◌≡◌}
 use Rattle.plan.specs.Claim.{dollars, past_claims}
 use Rattle.reading.specs.Reading.{bit}
 use Rattle.reading.proofs.Storing.{Copying}
@@ -8,9 +8,6 @@ use Rattle.reading.proofs.read_claims.Given as goal
 
 abbrev pub invariant-loop-i : goal.invariant-loop-i
 invariant-loop-i l =
-    (l.i ≤ l.k) × (l.next.at ≡ past_claims l.file l.initial.next.at l.i)
+    (l.next.at ≡ past_claims l.file l.initial.next.at l.i)
     × Copying dollars l.file l.initial.next.at l.count l.from l.initial.claims l.i l.claims
     × Copying bit l.file l.initial.next.at l.count l.from l.initial.joined l.i l.joined
-
-abbrev pub decreases-loop-i : goal.decreases-loop-i
-decreases-loop-i l = l.k - l.i

@@ -1,14 +1,10 @@
--- Counts, claims and bits of the risks passed fill the first entries of their buffers, and the place is where they end.
--- The measure is the risks to come.
-use Rattle.std.proofs.Common.{◌-◌, ◌≤◌}
+-- Of the risks passed the counts fill the entries for them, and claims and bits the first entries of their buffers, and the place is
+-- where they end.
+use Rattle.std.proofs.Common.{take}
 use Rattle.reading.proofs.Storing.{Storing}
 use Rattle.reading.proofs.read_risks.Given as goal
 
-abbrev pub invariant-loop-i : goal.invariant-loop-i
-invariant-loop-i l =
-    (l.i ≤ l.risks)
-    × Storing l.file l.initial.next.at l.initial.counts l.initial.claims l.initial.joined l.i l.next.at l.from l.counts
-    l.claims l.joined
-
-abbrev pub decreases-loop-i : goal.decreases-loop-i
-decreases-loop-i l = l.risks - l.i
+abbrev pub invariant-loop-entry : goal.invariant-loop-entry
+invariant-loop-entry l =
+    Storing l.file l.initial.next.at (take l.risks l.fn.counts) l.initial.claims l.initial.joined l.entry-index l.next.at l.from
+    l.entry-items l.claims l.joined
