@@ -1,3 +1,4 @@
 -- Laws that the loops over claims cite.
 pub mod Reach
 pub mod Limit
+pub mod Taking

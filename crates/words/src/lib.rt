@@ -3,7 +3,7 @@
 #![tactic(auto)]
 
 ghost use Rattle.std.specs.Prelude.{◌≡◌, ◌+◌, ◌-◌, ◌*◌, ◌/◌, ◌%◌, ◌^◌, ◌≤◌, ◌<◌, length};
-ghost use Rattle.plan.specs.Field.{field};
+ghost use Rattle.plan.specs.Field.{field, fits};
 ghost use Rattle.words.specs.Words.{Joins, Inserted};
 
 use std::array;
@@ -73,6 +73,14 @@ fn word_at_end(file: &[u8], i: usize) -> u64
 }
 
 // ---- put: some bits of one byte
+
+// Whether a value fits so many bits.
+pub fn value_fits(width: u32, value: u32) -> bool
+    requires { width < 32 }
+    ensures { result ≡ fits width value }
+{
+    value < 1 << width
+}
 
 // The byte with `part` in the n bits above its `low` lowest; of a whole byte nothing old is kept.
 pub fn insert(old: u8, low: u32, n: u32, part: u64) -> u8
