@@ -26,7 +26,7 @@ second_low bits = 64 - 2 * (bits + dollars_width)
 pub record LossesOf (cs : List Claim) (limit : ℕ) (next : BitPlace) (q : ClaimRun) : Type 0 where
   pub total : q.total ≡ total_of cs
   pub limited : q.limited ≡ limited_of limit cs
-  pub place : q.next ≡ next
+  pub place : q.next.at ≡ next.at
 
 module _ {S : Type 0} (Are : List Claim → ℕ → S → Type 0) where
   -- they are of some claims of a risk, which may have k more

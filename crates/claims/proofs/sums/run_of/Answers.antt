@@ -68,7 +68,7 @@ loop-preserved g c =
 -- L and A of the first k claims, at the place after them
 run-is : {s : List ℕ} {at k limit : ℕ} {next : BitPlace} {r : ClaimRun} → LossesOf (claims_from s at k) limit next r
     → next.at ≡ past_claims s at k → ClaimsAre s at k limit r
-run-is x e = record { total = x.total; limited = x.limited; next = ap (λ (p : BitPlace). p.at) x.place ∙ e }
+run-is x e = record { total = x.total; limited = x.limited; next = x.place ∙ e }
 
 pub ended-requires : goal.ended-requires
 ended-requires g c =

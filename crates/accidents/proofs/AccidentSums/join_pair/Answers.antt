@@ -2,7 +2,7 @@
 use Rattle.std.proofs.Common.{◌≡◌, refl, ap, ◌∙◌, ℕ, ◌/◌, ◌%◌, ◌^◌, arith, bit_and, rules}
 use native.Mathlib.Nat.{zero-div}
 use lib.Bits.{and_shr, and_mod, and_mask}
-use Rattle.accidents.proofs.join_pair.Goals as goal
+use Rattle.accidents.proofs.AccidentSums.join_pair.Goals as goal
 
 -- a bit of a word that has none of a mask's bits is 0 where the mask's is 1
 clear : (w mask k : ℕ) → bit_and w mask ≡ 0 → mask / 2 ^ k % 2 ^ 1 ≡ 1 → w / 2 ^ k % 2 ^ 1 ≡ 0
