@@ -39,6 +39,7 @@ pub struct Counted {
 }
 
 // The number of claims of the risk that begins at a place, and the place of its first claim.
+#[tactic(auto, unfolding(plan::specs::Risk::count_at, plan::specs::Risk::first_claim))]
 pub fn count_at(file: &[u8], place: BitPlace) -> Taken<u32>
     requires { place.at + count_width ≤ most_file_bits }
     ensures { CountIs file.now place.at result }

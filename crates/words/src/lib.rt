@@ -40,7 +40,19 @@ pub fn word_within(file: &[u8], i: usize, reach: usize) -> u64
     requires { (i < 2 ^ 61) × (i + 8 ≤ reach) }
     ensures { result ≡ field file.now (8 * i) 64 }
 {
-    if reach <= file.len() || i + 8 <= file.len() {
+    if reach <= file.len() {
+        word_inside(file, i)
+    } else {
+        word_at(file, i)
+    }
+}
+
+// The same wherever it ends. Apart from the test of `reach`, so that a loop over words can compile to one without a test in it.
+fn word_at(file: &[u8], i: usize) -> u64
+    requires { i < 2 ^ 61 }
+    ensures { result ≡ field file.now (8 * i) 64 }
+{
+    if i + 8 <= file.len() {
         word_inside(file, i)
     } else {
         word_at_end(file, i)
