@@ -1,2 +1,2 @@
--- Room for the second claim of a pair.
-mod Room
+-- The law of a claim more.
+mod Joining

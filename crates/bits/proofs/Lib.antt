@@ -1,9 +1,9 @@
 -- Laws of taking and putting, one field or a run of them. Crates above cite the public ones, as Rattle.bits.proofs.Runs.
 pub mod Fronts
-pub mod Places
 pub mod Puts
 pub mod Runs
 pub mod Regrouped
 pub mod WholeBytes
 mod OneByte
 mod Parts
+mod Whole

@@ -16,6 +16,14 @@ pub record FiveBytes (s : List ℕ) (at v : ℕ) : Type 0 where
   pub within : at + 40 ≤ 8 * length s
   pub fits : v < 2 ^ 40
 
+-- the bytes s have n whole bytes, eight at most, at the place `at`, and v is a number of so many
+pub record WholeBytes (s : List ℕ) (at n v : ℕ) : Type 0 where
+  pub few : n ≤ 8
+  pub begins : at % 8 ≡ 0
+  pub next : at + 8 * n < 2 ^ 64
+  pub within : at + 8 * n ≤ 8 * length s
+  pub fits : v < 2 ^ (8 * n)
+
 -- v put in w bits of the bytes s at the place `at` leaves t: the field there is v, every other bit is as it was
 pub record Put (s : List ℕ) (at w v : ℕ) (t : List ℕ) : Type 0 where
   pub same : length t ≡ length s

@@ -1,7 +1,7 @@
 -- Taking a field: what it asks for, and what it gives.
 use Rattle.std.specs.Prelude.{◌≡◌, List, ℕ, ◌+◌, ◌-◌, ◌/◌, ◌^◌, ◌≤◌, ◌<◌}
 use Rattle.plan.specs.Field.{field}
-use Rattle.bits.specs.declared.Front.{Front}
+use Rattle.bits.specs.declared.Taken.{Taken}
 
 -- a field of w bits at the place `at` is at most 32 bits wide, and the next place is a number of 64 bits
 pub record Reach (at w : ℕ) : Type 0 where
@@ -26,6 +26,6 @@ pub record FrontReach (at w reach : ℕ) : Type 0 where
   pub next : at + w < 2 ^ 64
 
 -- w bits of the bytes s taken at the place `at`, on the front of a word; and where they ended
-pub record FrontTaken (s : List ℕ) (at w : ℕ) (r : Front) : Type 0 where
-  pub ahead : Ahead s at w r.bits
+pub record FrontTaken (s : List ℕ) (at w : ℕ) (r : Taken ℕ) : Type 0 where
+  pub ahead : Ahead s at w r.value
   pub place : r.next.at ≡ at + w

@@ -3,9 +3,9 @@
 // Nothing here knows what a field means, or asks whether a file has it: that is for the file's reader.
 #![tactic(auto)]
 
-ghost use Rattle.std.specs.Prelude.{◌≡◌, ◌+◌, ◌-◌, ◌/◌, ◌%◌, ◌^◌, ◌≤◌, ◌<◌, length};
+ghost use Rattle.std.specs.Prelude.{◌≡◌, ◌+◌, ◌-◌, ◌*◌, ◌/◌, ◌%◌, ◌^◌, ◌≤◌, ◌<◌, length};
 ghost use Rattle.bits.specs.Take.{Reach, Took, FrontReach, FrontTaken};
-ghost use Rattle.bits.specs.Put.{Room, FiveBytes, Put, InByte};
+ghost use Rattle.bits.specs.Put.{Room, FiveBytes, WholeBytes, Put, InByte};
 
 use words::{bits_after, extract, insert, word_within};
 
@@ -15,23 +15,16 @@ pub struct BitPlace {
     pub at: usize,
 }
 
-// A field's value, and the place where the field ended.
+// What was taken, and the place where it ended: a field's value, or bits of a file on the front of a word, its highest.
 #[derive(Clone, Copy)]
-pub struct Taken {
-    pub value: u32,
-    pub next: BitPlace,
-}
-
-// Bits of a file on the front of a word, its highest, and the place where those that were taken end.
-#[derive(Clone, Copy)]
-pub struct Front {
-    pub bits: u64,
+pub struct Taken<T> {
+    pub value: T,
     pub next: BitPlace,
 }
 
 impl BitPlace {
     // The field of `width` bits at this place, and the next place.
-    pub fn take(self, file: &[u8], width: u32) -> Taken
+    pub fn take(self, file: &[u8], width: u32) -> Taken<u32>
         requires { Reach self.at width }
         ensures { Took file.now self.at width result.value result.next.at }
     {
@@ -41,7 +34,7 @@ impl BitPlace {
 
     // The same, of a field whose word ends at byte `reach` or before: one test of the file's length will do for many fields
     // with the same `reach`. A field's bits lie in one word, so there is no loop.
-    pub fn take_within(self, file: &[u8], width: u32, reach: usize) -> Taken
+    pub fn take_within(self, file: &[u8], width: u32, reach: usize) -> Taken<u32>
         requires { Reach self.at width × (self.at / 8 + 8 ≤ reach) }
         ensures { Took file.now self.at width result.value result.next.at }
     {
@@ -58,15 +51,15 @@ impl BitPlace {
 
     // The run of `width` bits at this place, 57 at most, on the front of a word, and the next place: fields are then cut from the
     // front one after another, without another load. The word ends at byte `reach` or before.
-    pub fn take_front(self, file: &[u8], width: u32, reach: usize) -> Front
+    pub fn take_front(self, file: &[u8], width: u32, reach: usize) -> Taken<u64>
         requires { FrontReach self.at width reach }
         ensures { FrontTaken file.now self.at width result }
     {
         let at = self.at;
-        let bits = word_within(file, at / 8, reach) << (at % 8) as u32;
+        let value = word_within(file, at / 8, reach) << (at % 8) as u32;
         let past = at + width as usize;
-        Front {
-            bits,
+        Taken {
+            value,
             next: BitPlace { at: past },
         }
     }
@@ -88,33 +81,35 @@ impl BitPlace {
         BitPlace { at }
     }
 
+    // Puts a field of N whole bytes, eight at most, that begins with a byte.
+    pub fn put_whole<const N: usize>(self, out: &mut [u8], value: u64) -> BitPlace
+        requires { WholeBytes out.old self.at N value }
+        ensures next { result.at ≡ self.at + 8 * N }
+        ensures put { Put out.old self.at (8 * N) value out.new }
+    {
+        let from = self.at / 8;
+        out[from..from + N].copy_from_slice(&value.to_be_bytes()[8 - N..]);
+        BitPlace {
+            at: self.at + 8 * N,
+        }
+    }
+
     // Puts a field of 32 bits that begins with a byte: four whole bytes.
     pub fn put_bytes(self, out: &mut [u8], value: u32) -> BitPlace
         requires { Room out.old self.at 32 value × (self.at % 8 ≡ 0) }
         ensures next { result.at ≡ self.at + 32 }
         ensures put { Put out.old self.at 32 value out.new }
     {
-        let at = self.at;
-        let v = value as u64;
-        put_in_byte(out, at, 8, extract(v, 24, 8));
-        put_in_byte(out, at + 8, 8, extract(v, 16, 8));
-        put_in_byte(out, at + 16, 8, extract(v, 8, 8));
-        put_in_byte(out, at + 24, 8, extract(v, 0, 8));
-        BitPlace { at: at + 32 }
+        self.put_whole::<4>(out, value as u64)
     }
 
-    // Puts a field of 40 bits that begins with a byte: five whole bytes. The last four come first, since as four stores in
-    // a row they can compile to one.
+    // Puts a field of 40 bits that begins with a byte: five whole bytes.
     pub fn put_five(self, out: &mut [u8], value: u64) -> BitPlace
         requires { FiveBytes out.old self.at value }
         ensures next { result.at ≡ self.at + 40 }
         ensures put { Put out.old self.at 40 value out.new }
     {
-        let at = self.at;
-        let second = BitPlace { at: at + 8 };
-        let next = second.put_bytes(out, extract(value, 0, 32) as u32);
-        put_in_byte(out, at, 8, extract(value, 32, 8));
-        next
+        self.put_whole::<5>(out, value)
     }
 }
 
@@ -125,8 +120,7 @@ fn count_in_byte(at: usize, left: u32) -> u32
     requires { 0 < left }
     ensures { InByte at left result }
 {
-    let room = 8 - (at % 8) as u32;
-    if left < room { left } else { room }
+    left.min(8 - (at % 8) as u32)
 }
 
 // Puts a field of n bits that lies in one byte.

@@ -1,3 +1,3 @@
 -- Laws that the loops over claims cite.
 pub mod Reach
-pub mod Limit
+pub mod Taking

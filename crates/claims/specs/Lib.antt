@@ -1,3 +1,4 @@
 -- What taking a claim asks for and gives, and what a run of claims comes to.
 pub mod Claim
 pub mod Run
+pub mod Sums

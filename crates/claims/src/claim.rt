@@ -9,7 +9,7 @@ ghost use Rattle.bits.specs.Take.{Took};
 ghost use Rattle.claims.specs.Claim.{ClaimReach, ClaimTaken, RunReach, front_dollars};
 
 use bits::{BitPlace, Taken};
-use words::{extract, highest};
+use words::{extract, highest, value_fits};
 
 // The edition whose claims are their dollars alone, and the one whose claims have a bit before them.
 pub const SINGLE_EDITION: u32 = 1;
@@ -33,7 +33,7 @@ pub struct TakenClaim {
 }
 
 // Bits of the field before a claim's dollars: one, or none.
-fn joined_width(edition: u32) -> u32
+pub fn joined_width(edition: u32) -> u32
     ensures { result ≡ joined_width edition }
 {
     if edition == JOINING_EDITION { 1 } else { 0 }
@@ -65,8 +65,8 @@ pub fn reach_of(place: BitPlace, count: u32) -> usize
 }
 
 // A claim's fields taken as one; their word ends at byte `reach` or before. Each width is a number of its own here, so that a loop over
-// claims can compile to one for each edition.
-fn fields_at(file: &[u8], place: BitPlace, edition: u32, reach: usize) -> Taken
+// claims can compile to one for each edition: by one call with `claim_width(edition)` Read takes 321,808 instructions in place of 241,224.
+fn fields_at(file: &[u8], place: BitPlace, edition: u32, reach: usize) -> Taken<u32>
     requires { ClaimReach place.at 0 reach }
     ensures { Took file.now place.at (claim_width edition) result.value result.next.at }
 {
@@ -117,12 +117,12 @@ pub fn limited_ahead(word: u64, most: u32) -> u32
 pub fn dollars_fit(dollars: u32) -> bool
     ensures { result ≡ fits dollars_width dollars }
 {
-    dollars < 1 << DOLLARS_WIDTH
+    value_fits(DOLLARS_WIDTH, dollars)
 }
 
 // Whether a claim's bit fits its field.
 pub fn joined_fits(edition: u32, joined: u32) -> bool
     ensures { result ≡ fits (joined_width edition) joined }
 {
-    joined < 1 << joined_width(edition)
+    value_fits(joined_width(edition), joined)
 }

@@ -4,3 +4,4 @@
 
 pub mod claim;
 pub mod run;
+pub mod sums;

@@ -1,6 +1,6 @@
 // A run of claims as the file has it, and what the loss limit leaves of an accident's sum. The loops over the claims of a risk give the
 // one and use the other.
-ghost use Rattle.std.specs.Prelude.{◌≡◌, min};
+ghost use Rattle.std.specs.Prelude.{◌≡◌};
 ghost use Rattle.plan.specs.Losses.{limited_to};
 
 use bits::BitPlace;
@@ -17,15 +17,5 @@ pub struct ClaimRun {
 pub fn limited_to(limit: u32, sum: u32) -> u32
     ensures { result ≡ limited_to limit sum }
 {
-    if limit == 0 {
-        return sum;
-    }
-    lesser(sum, limit)
-}
-
-// The lesser of two numbers.
-pub fn lesser(x: u32, y: u32) -> u32
-    ensures { result ≡ min x y }
-{
-    if x < y { x } else { y }
+    if limit == 0 { sum } else { sum.min(limit) }
 }

@@ -9,7 +9,7 @@ use Rattle.counts.specs.declared.RiskHead.{RiskHead}
 use Rattle.counts.specs.declared.Counted.{Counted}
 
 -- the count of the risk that begins at the place `at`, and the place of its first claim
-pub record CountIs (s : List ℕ) (at : ℕ) (r : Taken) : Type 0 where
+pub record CountIs (s : List ℕ) (at : ℕ) (r : Taken ℕ) : Type 0 where
   pub is : r.value ≡ count_at s at
   pub next : r.next.at ≡ first_claim at
 

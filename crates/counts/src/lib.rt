@@ -39,7 +39,8 @@ pub struct Counted {
 }
 
 // The number of claims of the risk that begins at a place, and the place of its first claim.
-pub fn count_at(file: &[u8], place: BitPlace) -> Taken
+#[tactic(auto, unfolding(plan::specs::Risk::count_at, plan::specs::Risk::first_claim))]
+pub fn count_at(file: &[u8], place: BitPlace) -> Taken<u32>
     requires { place.at + count_width ≤ most_file_bits }
     ensures { CountIs file.now place.at result }
 {
@@ -54,7 +55,7 @@ pub fn head_at(file: &[u8], place: BitPlace, edition: u32) -> RiskHead
 {
     let reach = place.at / 8 + 8;
     let front = place.take_front(file, HEAD_WIDTH, reach);
-    let count = highest(front.bits, COUNT_WIDTH) as u32;
+    let count = highest(front.value, COUNT_WIDTH) as u32;
     let at = place.at + COUNT_WIDTH as usize;
     let next = BitPlace { at };
     if edition != JOINING_EDITION {
@@ -64,7 +65,7 @@ pub fn head_at(file: &[u8], place: BitPlace, edition: u32) -> RiskHead
             next,
         };
     }
-    let bit = extract(front.bits, BIT_LOW, 1);
+    let bit = extract(front.value, BIT_LOW, 1);
     RiskHead {
         count,
         opened: (count == 0) | (bit == 0),
@@ -81,14 +82,12 @@ pub fn count_claims(file: &[u8], place: BitPlace, risks: u32, edition: u32) -> C
     let mut claims: u32 = 0;
     let mut opened = true;
     let mut next = place;
-    let mut i: u32 = 0;
-    while i < risks {
+    for _ in 0..risks {
         let head = head_at(file, next, edition);
         let count = head.count;
         claims += count;
-        opened = opened & head.opened;
+        opened &= head.opened;
         next = past_claims(head.next, count, edition);
-        i += 1;
     }
     Counted {
         end: next,

@@ -124,7 +124,7 @@ module _ {s : List ℕ} {at n : ℕ} {old_counts old_claims old_joined : List �
   joined-room = omega (arith, next-within, room.joined)
 
   -- one risk more, as the code has it: a count taken at p
-  module _ {t : Taken} (x : CountIs s p t) where
+  module _ {t : Taken ℕ} (x : CountIs s p t) where
     abbrev b : ℕ
     b = past_risks s at i
 

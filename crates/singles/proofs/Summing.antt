@@ -1,73 +1,82 @@
--- Edition 1: the loop over the claims of a risk, each an accident of its own. After i claims the sums are those of its first i
--- claims. The law takes one claim more. Assumes nothing.
-use mathlib.Core.Path.{◌≡◌, sym, ap, ap₂, ◌∙◌}
-use mathlib.Core.List.{List}
+-- Edition 1: the sums of claims that are an accident each. The law takes one claim more. Assumes nothing.
+use mathlib.Core.Path.{◌≡◌, sym, ap, ap₂, ◌∙◌, subst}
+use mathlib.Core.List.{List, [], ◌∷◌, ◌++◌}
 use Prim.Native.Nat.{ℕ, ◌+◌, ◌*◌, ◌%◌, ◌^◌, ◌≤◌, ◌<◌, min}
 use native.Mathlib.Omega.{arith}
-use Rattle.plan.specs.Field.{field}
+use native.Mathlib.Nat.{mod-eq_of_lt}
+use lib.ListN.{length, length-append}
+use Rattle.std.proofs.Common.{append_assoc}
 use Rattle.plan.specs.Sizes.{largest_claim, most_claims}
-use Rattle.plan.specs.Header.{edition_of}
-use Rattle.plan.specs.Claim.{Claim, dollars, joined_width, dollars_width, claim_width, claim_at, claims_from, past_claims}
-use Rattle.plan.specs.Losses.{limited_to, total_of, limited_of}
-use Rattle.plan.proofs.Claims.{width_is, dollars-at, dollars-le, not-joined, past-claim, past_more}
-use Rattle.plan.proofs.Losses.{most-limited, limited-total, none-limited, total-so-far, limited-so-far, claims-total-le}
-use Rattle.bits.specs.Take.{Ahead}
-use Rattle.bits.proofs.Fronts.{front-is, ahead_past}
+use Rattle.plan.specs.Claim.{Claim, joined, dollars, dollars_width}
+use Rattle.plan.specs.Losses.{limited_to, total_of}
+use Rattle.plan.proofs.Sums.{sum-append}
+use Rattle.plan.proofs.Accidents.{one_more}
+use Rattle.plan.proofs.Losses.{most-limited, limited-parts, limited-total, none-limited, limited-le}
+use Rattle.words.proofs.Words.{front-after}
 use Rattle.claims.specs.Claim.{front_dollars}
-use Rattle.singles.specs.Singles.{ClaimRoom, ClaimAdded}
+use Rattle.claims.specs.Sums.{claim_in}
+use Rattle.singles.specs.Singles.{ClaimRoom, ClaimAdded, ClaimsSummed}
 use Rattle.singles.specs.declared.ClaimSums.{ClaimSums}
 
--- the dollars on the front of a word are those of the claim whose bit lies before it
-pub front-dollars : (s : List ℕ) (at : ℕ) {p n w : ℕ} → Ahead s p n w → p ≡ at + joined_width (edition_of s) → dollars_width ≤ n
-    → front_dollars w ≡ dollars (claim_at s at)
-front-dollars s at a e h =
-    front-is a dollars_width h ∙ ap (λ (x : ℕ). field s x dollars_width) e ∙ sym (dollars-at s at)
+-- ---- claims without bits in a word
 
--- of claims from `at` on, i are summed
-pub record Summing (s : List ℕ) (at limit i : ℕ) (r : ClaimSums) : Type 0 where
-  pub total_is : r.total ≡ total_of (claims_from s at i)
-  pub limited_is : r.limited ≡ limited_of limit (claims_from s at i)
+-- such a claim opens an accident
+pub opens-one : (word low : ℕ) → joined (claim_in 0 word low) ≡ 0
+opens-one word low = omega arith
 
-pub summing-starts : (s : List ℕ) (at limit : ℕ) {r : ClaimSums} → r.total ≡ 0 → r.limited ≡ 0 → Summing s at limit 0 r
-summing-starts s at limit l a = record { total_is = l; limited_is = a ∙ sym (none-limited limit) }
+-- the first on a word's front, and after a shift the second
+pub first-dollars : (word : ℕ) → word < 2 ^ 64 → front_dollars word ≡ dollars (claim_in 0 word 44)
+first-dollars word h = sym (mod-eq_of_lt (omega arith))
 
--- a claim more can be added, of 63
-pub claim-room : {s : List ℕ} {at limit i : ℕ} {r : ClaimSums} {most : ℕ} → Summing s at limit i r → i < most_claims
-    → most ≤ largest_claim → ClaimRoom r most
-claim-room {s} {at} {limit} {i} {r} w h b =
-    let l : r.total ≤ largest_claim * i = omega (arith, w.total_is, claims-total-le s at i) in
-    let a : r.limited ≤ r.total = omega (arith, w.total_is, w.limited_is, limited-total limit (claims_from s at i)) in
-    record { total = omega (arith, l); limited = omega (arith, l, a); bound = b }
+pub second-dollars : (word : ℕ) → front_dollars ((word * 2 ^ dollars_width) % 2 ^ 64) ≡ dollars (claim_in 0 word 24)
+second-dollars word = front-after word dollars_width dollars_width (omega arith)
 
-module _ (s : List ℕ) (one : joined_width (edition_of s) ≡ 0) where
-  -- a claim is its dollars alone
-  pub single-width : claim_width (edition_of s) ≡ dollars_width
-  single-width = omega (arith, width_is (edition_of s), one)
+-- ---- the sums
 
-  module _ {at limit i : ℕ} {r : ClaimSums} (w : Summing s at limit i r) {most : ℕ} (m : most ≡ limited_to limit largest_claim) where
-    -- the claim after them
-    abbrev pub next_claim : Claim
-    next_claim = claim_at s (past_claims s at i)
+pub summing-starts : (limit : ℕ) {r : ClaimSums} → r.total ≡ 0 → r.limited ≡ 0 → r.most ≡ limited_to limit largest_claim
+    → ClaimsSummed [] limit r
+summing-starts limit t l m = record { total = t; limited = l ∙ sym (none-limited limit); most = m; each = omega arith }
 
-    -- one claim more
-    pub summing-more : {x : ℕ} {q : ClaimSums} → x ≡ dollars next_claim → ClaimAdded r x most q → Summing s at limit (i + 1) q
-    summing-more {x} {q} e a =
-        let left : min x most ≡ limited_to limit (dollars next_claim) =
-        ap₂ min e m ∙ most-limited limit (dollars next_claim) largest_claim (dollars-le s (past_claims s at i)) in
-        record {
-          total_is = a.total ∙ ap₂ ◌+◌ w.total_is e ∙ sym (total-so-far s at i);
-          limited_is =
-              a.limited ∙ ap₂ ◌+◌ w.limited_is left ∙ sym (limited-so-far s at i limit (not-joined s (past_claims s at i) one));
-        }
+module _ {cs : List Claim} {limit : ℕ} {r : ClaimSums} (w : ClaimsSummed cs limit r) where
+  -- a claim more can be added, of 63
+  pub claim-room : length cs < most_claims → ClaimRoom r
+  claim-room h = record {
+    total = omega (arith, w.total, w.each);
+    limited = omega (arith, w.total, w.each, w.limited, limited-total limit cs);
+    bound = omega (arith, w.most, limited-le limit largest_claim);
+  }
 
-    -- a word from that claim on has it on its front
-    module _ {p n word : ℕ} (here : p ≡ past_claims s at i) (a : Ahead s p n word) where
-      pub front-here : dollars_width ≤ n → front_dollars word ≡ dollars next_claim
-      front-here h = front-dollars s (past_claims s at i) a (omega (arith, here, one)) h
+  -- one claim more
+  pub summing-more : {x : ℕ} {q : ClaimSums} (c : Claim) → x ≡ dollars c → x ≤ largest_claim → joined c ≡ 0 → ClaimAdded r x q
+      → ClaimsSummed (cs ++ c ∷ []) limit q
+  summing-more {x} {q} c e small opened a =
+      let law = one_more (limited_to limit) cs c in
+      let left : min x r.most ≡ limited_to limit x = ap (min x) w.most ∙ most-limited limit x largest_claim small in
+      let more : total_of (cs ++ c ∷ []) ≡ total_of cs + dollars c = sum-append dollars cs (c ∷ []) ∙ omega arith in
+      record {
+        total = a.total ∙ ap₂ ◌+◌ w.total e ∙ sym more;
+        limited =
+            a.limited
+            ∙ ap₂ ◌+◌ w.limited (left ∙ ap (limited_to limit) e)
+            ∙ omega (arith, limited-parts limit cs, limited-parts limit (cs ++ c ∷ []), law.opened_before opened, ap (limited_to limit) (law.opened_last opened));
+        most = a.most ∙ w.most;
+        each = omega (arith, more, w.each, small, e, length-append cs (c ∷ []));
+      }
 
-      -- and the one behind it after a shift
-      pub front-behind : 2 * dollars_width ≤ n
-          → front_dollars ((word * 2 ^ dollars_width) % 2 ^ 64) ≡ dollars (claim_at s (past_claims s at (i + 1)))
-      front-behind h =
-          front-dollars s (past_claims s at (i + 1)) (ahead_past a dollars_width (omega arith))
-          (omega (arith, here, one, past_more s at i, past-claim s (past_claims s at i), single-width)) (omega arith)
+  -- the one on a word's front, and after a shift the one behind it
+  pub summing-front : {word : ℕ} {q : ClaimSums} → word < 2 ^ 64 → ClaimAdded r (front_dollars word) q
+      → ClaimsSummed (cs ++ claim_in 0 word 44 ∷ []) limit q
+  summing-front {word} h a = summing-more (claim_in 0 word 44) (first-dollars word h) (omega arith) (opens-one word 44) a
+
+  pub summing-behind : (word : ℕ) {q : ClaimSums} → ClaimAdded r (front_dollars ((word * 2 ^ dollars_width) % 2 ^ 64)) q
+      → ClaimsSummed (cs ++ claim_in 0 word 24 ∷ []) limit q
+  summing-behind word a =
+      summing-more (claim_in 0 word 24) (second-dollars word) (omega (arith, second-dollars word)) (opens-one word 24) a
+
+-- both
+pub summing-pair : {cs : List Claim} {limit : ℕ} {r p q : ClaimSums} → ClaimsSummed cs limit r → (word : ℕ) → word < 2 ^ 64
+    → ClaimAdded r (front_dollars word) p → ClaimAdded p (front_dollars ((word * 2 ^ dollars_width) % 2 ^ 64)) q
+    → ClaimsSummed (cs ++ claim_in 0 word 44 ∷ claim_in 0 word 24 ∷ []) limit q
+summing-pair {cs} {limit} {r} {p} {q} w word h a b =
+    subst (λ (ds : List Claim). ClaimsSummed ds limit q) (append_assoc cs (claim_in 0 word 44 ∷ []) (claim_in 0 word 24 ∷ []))
+    (summing-behind (summing-front w h a) word b)

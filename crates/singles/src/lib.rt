@@ -6,61 +6,75 @@ ghost use Rattle.plan.specs.Claim.{joined_width};
 ghost use Rattle.plan.specs.Header.{edition_of};
 ghost use Rattle.claims.specs.Claim.{RunReach, front_dollars};
 ghost use Rattle.claims.specs.Run.{ClaimsAre};
-ghost use Rattle.singles.specs.Singles.{ClaimRoom, ClaimAdded};
+ghost use Rattle.singles.specs.Singles.{ClaimRoom, ClaimAdded, ClaimsSummed};
 
 use bits::BitPlace;
-use claims::claim::{DOLLARS_WIDTH, LARGEST_CLAIM, dollars_ahead, limited_ahead, reach_of};
+use claims::claim::{DOLLARS_WIDTH, LARGEST_CLAIM, dollars_ahead, limited_ahead};
 use claims::run::{ClaimRun, limited_to};
+use claims::sums::{Sums, run_of};
 
-// Bits of two claims.
-const SINGLE_PAIR_WIDTH: u32 = 40;
-
-// The sums of some claims of a risk, each an accident of its own: L and A of them.
+// The sums of some claims of a risk, each an accident of its own: L and A of them. `most` is what the limit leaves of the largest claim.
 #[derive(Clone, Copy)]
 struct ClaimSums {
     pub total: u32,
     pub limited: u32,
+    pub most: u32,
 }
 
-// The sums with one claim more, the one on the front of a word; `most` is what the limit leaves of the largest claim.
-fn add_claim(sums: ClaimSums, word: u64, most: u32) -> ClaimSums
-    requires { ClaimRoom sums most }
-    ensures { ClaimAdded sums (front_dollars word) most result }
-{
-    let total = sums.total + dollars_ahead(word);
-    let limited = sums.limited + limited_ahead(word, most);
-    ClaimSums { total, limited }
+impl ClaimSums {
+    // With one claim more, the one on the front of a word.
+    fn with_claim(self, word: u64) -> ClaimSums
+        requires { ClaimRoom self }
+        ensures { ClaimAdded self (front_dollars word) result }
+    {
+        let total = self.total + dollars_ahead(word);
+        let limited = self.limited + limited_ahead(word, self.most);
+        ClaimSums {
+            total,
+            limited,
+            most: self.most,
+        }
+    }
 }
 
-// The claims without bits, as many as `count`, from a place on. Two claims are taken from one word; an odd one is the last.
+impl Sums for ClaimSums {
+    const BITS: u32 = 0;
+
+    ghost BITS = { 0 };
+
+    ghost Are = { ClaimsSummed };
+
+    fn none(limit: u32) -> ClaimSums {
+        let most = limited_to(limit, LARGEST_CLAIM);
+        ClaimSums {
+            total: 0,
+            limited: 0,
+            most,
+        }
+    }
+
+    fn add_claim(self, word: u64) -> ClaimSums {
+        self.with_claim(word)
+    }
+
+    fn add_pair(self, word: u64) -> ClaimSums {
+        let one = self.with_claim(word);
+        one.with_claim(word << DOLLARS_WIDTH)
+    }
+
+    fn ended(self, next: BitPlace) -> ClaimRun {
+        ClaimRun {
+            total: self.total,
+            limited: self.limited,
+            next,
+        }
+    }
+}
+
+// The claims without bits, as many as `count`, from a place on.
 pub fn single_claims(file: &[u8], place: BitPlace, count: u32, limit: u32) -> ClaimRun
     requires { RunReach place.at count × (joined_width (edition_of file.now) ≡ 0) }
     ensures { ClaimsAre file.now place.at count limit result }
 {
-    let reach = reach_of(place, count);
-    let most = limited_to(limit, LARGEST_CLAIM);
-    let pairs = count / 2;
-    let mut sums = ClaimSums {
-        total: 0,
-        limited: 0,
-    };
-    let mut next = place;
-    let mut i: u32 = 0;
-    while i < pairs {
-        let pair = next.take_front(file, SINGLE_PAIR_WIDTH, reach);
-        sums = add_claim(sums, pair.bits, most);
-        sums = add_claim(sums, pair.bits << DOLLARS_WIDTH, most);
-        next = pair.next;
-        i += 1;
-    }
-    if count % 2 == 1 {
-        let last = next.take_front(file, DOLLARS_WIDTH, reach);
-        sums = add_claim(sums, last.bits, most);
-        next = last.next;
-    }
-    ClaimRun {
-        total: sums.total,
-        limited: sums.limited,
-        next,
-    }
+    run_of::<ClaimSums>(file, place, count, limit)
 }

@@ -13,10 +13,6 @@ use Rattle.words.specs.Words.{Joins, Inserted}
 one_shl : (n : ℕ) → n < 64 → (1 * 2 ^ n) % 2 ^ 64 ≡ 2 ^ n
 one_shl n h = ap (λ (x : ℕ). x % 2 ^ 64) (one-mul (2 ^ n)) ∙ mod-eq_of_lt (pow-lt h)
 
--- and is 1 at least
-pub one-shl-pos : (n : ℕ) → n < 64 → 1 ≤ (1 * 2 ^ n) % 2 ^ 64
-one-shl-pos n h = rw (one_shl n h) (pow_pos n)
-
 -- `x & ((1 << n) - 1)` is the n low bits
 pub masked : (x n : ℕ) → n < 64 → bit_and x ((1 * 2 ^ n) % 2 ^ 64 - 1) ≡ x % 2 ^ n
 masked x n h = ap (λ (m : ℕ). bit_and x (m - 1)) (one_shl n h) ∙ and_mask x n

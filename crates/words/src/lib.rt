@@ -3,8 +3,10 @@
 #![tactic(auto)]
 
 ghost use Rattle.std.specs.Prelude.{◌≡◌, ◌+◌, ◌-◌, ◌*◌, ◌/◌, ◌%◌, ◌^◌, ◌≤◌, ◌<◌, length};
-ghost use Rattle.plan.specs.Field.{field};
+ghost use Rattle.plan.specs.Field.{field, fits};
 ghost use Rattle.words.specs.Words.{Joins, Inserted};
+
+use std::array;
 
 // The n bits of x above its `low` lowest.
 pub fn extract(x: u64, low: u32, n: u32) -> u64
@@ -45,7 +47,7 @@ pub fn word_within(file: &[u8], i: usize, reach: usize) -> u64
     }
 }
 
-// The 64 bits from byte i on.
+// The same wherever it ends. Apart from the test of `reach`, so that a loop over words can compile to one without a test in it.
 fn word_at(file: &[u8], i: usize) -> u64
     requires { i < 2 ^ 61 }
     ensures { result ≡ field file.now (8 * i) 64 }
@@ -57,69 +59,40 @@ fn word_at(file: &[u8], i: usize) -> u64
     }
 }
 
-// The same where all eight bytes are in the file.
+// The same where all eight bytes are in the file, in a form that can compile to one load. The first is the most significant.
 fn word_inside(file: &[u8], i: usize) -> u64
     requires { i + 8 ≤ length file.now }
     ensures { result ≡ field file.now (8 * i) 64 }
 {
-    join(
-        half_inside(file, i) as u64,
-        32,
-        half_inside(file, i + 4) as u64,
-    )
+    u64::from_be_bytes([
+        file[i],
+        file[i + 1],
+        file[i + 2],
+        file[i + 3],
+        file[i + 4],
+        file[i + 5],
+        file[i + 6],
+        file[i + 7],
+    ])
 }
 
-// The same near the file's end.
+// The same near the file's end: a byte past it is 0.
 fn word_at_end(file: &[u8], i: usize) -> u64
     requires { i < 2 ^ 61 }
     ensures { result ≡ field file.now (8 * i) 64 }
 {
-    join(
-        half_at_end(file, i) as u64,
-        32,
-        half_at_end(file, i + 4) as u64,
-    )
-}
-
-// The 32 bits from byte i on where all four bytes are in the file, in a form that can compile to one load.
-fn half_inside(file: &[u8], i: usize) -> u32
-    requires { i + 4 ≤ length file.now }
-    ensures { result ≡ field file.now (8 * i) 32 }
-{
-    byte(file, i, 0) | byte(file, i, 1) | byte(file, i, 2) | byte(file, i, 3)
-}
-
-// The same near the file's end.
-fn half_at_end(file: &[u8], i: usize) -> u32
-    requires { i < 2 ^ 62 }
-    ensures { result ≡ field file.now (8 * i) 32 }
-{
-    byte_or_zero(file, i, 0)
-        | byte_or_zero(file, i, 1)
-        | byte_or_zero(file, i, 2)
-        | byte_or_zero(file, i, 3)
-}
-
-// Byte k of the four from byte i on, at its place in their half of a word: the first is the most significant.
-fn byte(file: &[u8], i: usize, k: usize) -> u32
-    requires { (k < 4) × (i + k < length file.now) }
-    ensures { result ≡ field file.now (8 * (i + k)) 8 * 2 ^ (24 - 8 * k) }
-{
-    (file[i + k] as u32) << (24 - 8 * k)
-}
-
-// The same, and 0 past the file's end.
-fn byte_or_zero(file: &[u8], i: usize, k: usize) -> u32
-    requires { (k < 4) × (i < 2 ^ 62) }
-    ensures { result ≡ field file.now (8 * (i + k)) 8 * 2 ^ (24 - 8 * k) }
-{
-    if file.len() <= i + k {
-        return 0;
-    }
-    byte(file, i, k)
+    u64::from_be_bytes(array::from_fn(|k| file.get(i + k).copied().unwrap_or(0)))
 }
 
 // ---- put: some bits of one byte
+
+// Whether a value fits so many bits.
+pub fn value_fits(width: u32, value: u32) -> bool
+    requires { width < 32 }
+    ensures { result ≡ fits width value }
+{
+    value < 1 << width
+}
 
 // The byte with `part` in the n bits above its `low` lowest; of a whole byte nothing old is kept.
 pub fn insert(old: u8, low: u32, n: u32, part: u64) -> u8

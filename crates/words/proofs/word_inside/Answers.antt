@@ -1,9 +1,7 @@
--- The word is two halves.
-use mathlib.Core.Path.{◌∙◌}
-use Rattle.words.proofs.Takes.{two-halves}
+-- Eight bytes are the word.
+use Rattle.std.proofs.Common.{◌∙◌}
+use Rattle.words.proofs.Takes.{eight_bytes}
 use Rattle.words.proofs.word_inside.Goals as goal
 
 pub returns : goal.returns
-returns c =
-    c.join.ensures
-    ∙ two-halves _ _ c.half_inside.ensures c.half_inside-2.ensures
+returns c = c.from_be_bytes.ensures ∙ eight_bytes c.args.file.now c.args.i (λ i. (c.type_inv.file i).fits)

@@ -11,17 +11,16 @@ use Rattle.claims.proofs.claim.claim_at.Goals as goal
 
 pub returns : goal.returns
 returns c =
-    let t = c in
-    let e = t in
-    let s = e.args.file.now in
-    let at = e.args.place.at in
-    let width : claim_width e.args.edition ≡ claim_width (edition_of s) = ap claim_width e.requires.1 in
-    let both : t.fields_at-taken.result.value ≡ field s at (claim_width (edition_of s)) = t.fields_at-taken.ensures.is ∙ ap (field s at) width in
+    let s = c.args.file.now in
+    let at = c.args.place.at in
+    let t = c.fields_at-taken in
+    let width : claim_width c.args.edition ≡ claim_width (edition_of s) = ap claim_width c.requires.1 in
+    let both : t.result.value ≡ field s at (claim_width (edition_of s)) = t.ensures.is ∙ ap (field s at) width in
     record {
       bit = ap (λ (x : ℕ). x / 2 ^ dollars_width) both ∙ joined-of-both s at;
       is =
           c.extract-dollars.ensures
-          ∙ ap (λ (x : ℕ). x % 2 ^ dollars_width) (div-one t.fields_at-taken.result.value ∙ both)
+          ∙ ap (λ (x : ℕ). x % 2 ^ dollars_width) (div-one t.result.value ∙ both)
           ∙ dollars-of-both s at;
-      next = omega (arith, t.fields_at-taken.ensures.place, width, past-claim s at);
+      next = omega (arith, t.ensures.place, width, past-claim s at);
     }
