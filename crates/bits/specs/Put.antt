@@ -9,13 +9,6 @@ pub record Room (s : List ℕ) (at w v : ℕ) : Type 0 where
   pub within : at + w ≤ 8 * length s
   pub fits : v < 2 ^ w
 
--- the bytes s have five whole bytes at the place `at`, and v is a number of 40 bits
-pub record FiveBytes (s : List ℕ) (at v : ℕ) : Type 0 where
-  pub begins : at % 8 ≡ 0
-  pub next : at + 40 < 2 ^ 64
-  pub within : at + 40 ≤ 8 * length s
-  pub fits : v < 2 ^ 40
-
 -- the bytes s have n whole bytes, eight at most, at the place `at`, and v is a number of so many
 pub record WholeBytes (s : List ℕ) (at n v : ℕ) : Type 0 where
   pub few : n ≤ 8

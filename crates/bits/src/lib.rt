@@ -5,7 +5,7 @@
 
 ghost use Rattle.std.specs.Prelude.{◌≡◌, ◌+◌, ◌-◌, ◌*◌, ◌/◌, ◌%◌, ◌^◌, ◌≤◌, ◌<◌, length};
 ghost use Rattle.bits.specs.Take.{Reach, Took, FrontReach, FrontTaken};
-ghost use Rattle.bits.specs.Put.{Room, FiveBytes, WholeBytes, Put, InByte};
+ghost use Rattle.bits.specs.Put.{Room, WholeBytes, Put, InByte};
 
 use words::{bits_after, extract, insert, word_within};
 
@@ -92,24 +92,6 @@ impl BitPlace {
         BitPlace {
             at: self.at + 8 * N,
         }
-    }
-
-    // Puts a field of 32 bits that begins with a byte: four whole bytes.
-    pub fn put_bytes(self, out: &mut [u8], value: u32) -> BitPlace
-        requires { Room out.old self.at 32 value × (self.at % 8 ≡ 0) }
-        ensures next { result.at ≡ self.at + 32 }
-        ensures put { Put out.old self.at 32 value out.new }
-    {
-        self.put_whole::<4>(out, value as u64)
-    }
-
-    // Puts a field of 40 bits that begins with a byte: five whole bytes.
-    pub fn put_five(self, out: &mut [u8], value: u64) -> BitPlace
-        requires { FiveBytes out.old self.at value }
-        ensures next { result.at ≡ self.at + 40 }
-        ensures put { Put out.old self.at 40 value out.new }
-    {
-        self.put_whole::<5>(out, value)
     }
 }
 

@@ -9,7 +9,7 @@ ghost use Rattle.bits.specs.Take.{Took};
 ghost use Rattle.claims.specs.Claim.{ClaimReach, ClaimTaken, RunReach, front_dollars};
 
 use bits::{BitPlace, Taken};
-use words::{extract, highest, value_fits};
+use words::{extract, highest};
 
 // The edition whose claims are their dollars alone, and the one whose claims have a bit before them.
 pub const SINGLE_EDITION: u32 = 1;
@@ -111,18 +111,4 @@ pub fn limited_ahead(word: u64, most: u32) -> u32
     } else {
         most
     }
-}
-
-// Whether a claim's dollars fit their field.
-pub fn dollars_fit(dollars: u32) -> bool
-    ensures { result ≡ fits dollars_width dollars }
-{
-    value_fits(DOLLARS_WIDTH, dollars)
-}
-
-// Whether a claim's bit fits its field.
-pub fn joined_fits(edition: u32, joined: u32) -> bool
-    ensures { result ≡ fits (joined_width edition) joined }
-{
-    value_fits(joined_width(edition), joined)
 }

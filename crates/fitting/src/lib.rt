@@ -14,22 +14,15 @@ ghost use Rattle.group.specs.Values.{header_is};
 ghost use Rattle.putting.specs.Putting.{given_group};
 ghost use Rattle.fitting.specs.Fitting.{OpensSays, OpenSays};
 
-use claims::claim::{dollars_fit, joined_fits};
+use claims::claim::{DOLLARS_WIDTH, joined_width};
 use group::{Header, MOST_CLAIMS, MOST_RISKS};
 use header::{
     CONVERSION_WIDTH, EXPENSE_WIDTH, LOSS_LIMIT_WIDTH, MARK_KIND_WIDTH, MARK_WIDTH,
     STANDARD_PREMIUM_WIDTH, TAX_WIDTH,
 };
+use words::value_fits;
 
 // ---- question 15
-
-// Whether a value fits so many bits.
-fn value_fits(width: u32, value: u32) -> bool
-    requires { width < 32 }
-    ensures { result ≡ fits width value }
-{
-    value < 1 << width
-}
 
 // Whether the header values fit their widths.
 fn header_fits(h: Header) -> bool
@@ -62,7 +55,7 @@ fn claims_fit(claims: &[u32]) -> bool
 {
     claims
         .iter()
-        .fold(true, |fit, &dollars| fit & dollars_fit(dollars))
+        .fold(true, |fit, &dollars| fit & value_fits(DOLLARS_WIDTH, dollars))
 }
 
 // Whether the bits of the claims fit their width in an edition: where that is no bits, each is 0. The greatest is looked for in a
@@ -71,7 +64,7 @@ fn joined_fit(edition: u32, joined: &[u8]) -> bool
     ensures { result ≡ all_fit (joined_width edition) joined.now }
 {
     let most = joined.iter().fold(0, |most: u8, &bit| most.max(bit));
-    joined_fits(edition, u32::from(most))
+    value_fits(joined_width(edition), most as u32)
 }
 
 // Question 15. Claims are looked at only where there are as many as the counts add to, and bits where there are as many as

@@ -12,7 +12,7 @@ use lib.ListN.{length, get_or, drop, drop_of_length-le}
 use lib.Pow.{pow_mono}
 use Rattle.plan.specs.Field.{field, Slot, slot, slots}
 use Rattle.plan.proofs.Rests.{rest_more}
-use Rattle.bits.specs.Put.{Room, FiveBytes, Put}
+use Rattle.bits.specs.Put.{Room, WholeBytes, Put}
 use Rattle.bits.specs.Runs.{Space, Wrote}
 use Rattle.bits.proofs.Runs.{room, Putting, putting-as, putting-more, putting-ends}
 use Rattle.bits.proofs.Regrouped.{putting-both, putting-two, putting-starts-before}
@@ -76,8 +76,9 @@ module _ {w : ℕ} {s : List ℕ} {at : ℕ} {values t : List ℕ} {skip byte he
           (putting-as (putting-both (putting-both apart)) (ap₂ (λ (v x : ℕ). slot v x ∷ rest) widths (sym is)))
 
       -- what putting them asks for
-      pub five-bytes : FiveBytes t (8 * byte) (word / 2 ^ more)
+      pub five-bytes : WholeBytes t (8 * byte) 5 (word / 2 ^ more)
       five-bytes = record {
+        few = omega arith;
         begins = omega arith;
         next = omega (arith, grouped.space.reach);
         within = omega (arith, grouped.space.within);

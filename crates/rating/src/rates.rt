@@ -33,7 +33,7 @@ pub fn put_bills(terms: Terms, losses: &[Losses], out: &mut [u8]) -> u64
     let mut place = BitPlace { at: 0 };
     for risk in losses {
         let bill = bill_of(terms, risk.limited);
-        place = place.put_bytes(out, bill);
+        place = place.put_whole::<4>(out, bill as u64);
         billed += bill as u64;
     }
     billed

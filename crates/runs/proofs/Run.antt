@@ -20,7 +20,7 @@ use Rattle.std.specs.Slice.Iter.{iter_rest}
 use Rattle.plan.specs.Sizes.{most_claim_width}
 use Rattle.plan.specs.Field.{slot, slots, Fitting}
 use Rattle.plan.specs.Claim.{joined_width, dollars_width, slots_of_claims, claims_of}
-use Rattle.bits.specs.Put.{Room, FiveBytes, Put}
+use Rattle.bits.specs.Put.{Room, WholeBytes, Put}
 use Rattle.bits.specs.Runs.{Wrote}
 use Rattle.bits.proofs.Runs.{Putting, putting-as}
 use Rattle.pairs.proofs.AsOne.{values, length-values, value-at, both-fit}
@@ -140,7 +140,7 @@ module _ {w : ℕ} {s : List ℕ} {at : ℕ} {js ds t : List ℕ} {bits byte hel
         wide : bits + w + w ≡ 40 + next_bits
         wide = omega (arith, widths, g.least)
 
-        pub five : FiveBytes t (8 * byte) (word / 2 ^ next_bits)
+        pub five : WholeBytes t (8 * byte) 5 (word / 2 ^ next_bits)
         five = five-bytes g.pairs more next_bits as_values wide
 
         module _ {u : List ℕ} {next : ℕ} (put : Put t (8 * byte) 40 (word / 2 ^ next_bits) u)

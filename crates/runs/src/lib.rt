@@ -51,7 +51,7 @@ fn put_run<const EDITION: u32>(
         let two = number_of::<EDITION>(bit_pair[1], claim_pair[1]);
         let word = pair_after(held, width, one, two);
         bits = bits + 2 * width - BYTE_WIDTH * PAIR_BYTES as u32;
-        BitPlace { at: 8 * byte }.put_five(out, word >> bits);
+        BitPlace { at: 8 * byte }.put_whole::<5>(out, word >> bits);
         held = extract(word, 0, bits);
         byte += PAIR_BYTES;
         if BYTE_WIDTH <= bits {

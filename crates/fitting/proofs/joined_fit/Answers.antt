@@ -1,5 +1,5 @@
 -- The fold finds the greatest bit, and whether it fits is asked; 0, from which it begins, fits any width.
-use Rattle.std.proofs.Common.{◌≡◌, ◌&&◌, ◌∙◌, ap, Bool, rules}
+use Rattle.std.proofs.Common.{◌≡◌, ◌&&◌, ◌∙◌, ap, ap₂, Bool, rules}
 use lib.Pow.{pow_pos}
 use borrow.Author.Tests.{lt-ltb}
 use Prim.Native.Nat.{max, ◌^◌}
@@ -14,5 +14,5 @@ pub returns : goal.returns
 returns c =
     let w = joined_width c.args.edition in
     let e : c.fold-most.result ≡ fold max 0 c.args.joined.now = search (rules, chains) in
-    c.joined_fits.ensures ∙ ap (fits w) (c.from.ensures ∙ e) ∙ greatest-asked w 0 c.args.joined.now
+    c.value_fits.ensures ∙ ap₂ fits c.joined_width.ensures e ∙ greatest-asked w 0 c.args.joined.now
     ∙ ap (λ (b : Bool). b && all_fit w c.args.joined.now) (lt-ltb 0 (2 ^ w) (pow_pos w))

@@ -51,8 +51,8 @@ pair_after-word-requires-clause-held_bound g c =
     let t = turn w.over e _ _ c.next.new.self c.loop-bit_pair.yielded_by c.in-Some.is c.next.ensures.steps in
     pair-fit w.run e t c.number_of-one.ensures c.number_of-two.ensures
 
-pub put_five-requires : goal.put_five-requires
-put_five-requires g c =
+pub put_whole-requires : goal.put_whole-requires
+put_whole-requires g c =
     let w = c.loop-bit_pair.invariant in
     let e = c.requires.joined_len in
     let t = turn w.over e _ _ c.next.new.self c.loop-bit_pair.yielded_by c.in-Some.is c.next.ensures.steps in
@@ -66,7 +66,7 @@ loop-bit_pair-preserved g c =
     record {
       over = w.over;
       run =
-          goes_on w.run e t c.number_of-one.ensures c.number_of-two.ensures c.pair_after-word.ensures refl c.put_five.ensures.put
+          goes_on w.run e t c.number_of-one.ensures c.number_of-two.ensures c.pair_after-word.ensures refl c.put_whole.ensures.put
           c.extract-held.ensures (length_push _ _) c.if-bits-ge-BYTE_WIDTH.false;
     }
 
@@ -77,7 +77,7 @@ put-requires g c =
     let w = c.loop-bit_pair.invariant in
     let e = c.requires.joined_len in
     let t = turn w.over e _ _ c.next.new.self c.loop-bit_pair.yielded_by c.in-Some.is c.next.ensures.steps in
-    room-of-byte w.run e t c.number_of-one.ensures c.number_of-two.ensures c.pair_after-word.ensures refl c.put_five.ensures.put
+    room-of-byte w.run e t c.number_of-one.ensures c.number_of-two.ensures c.pair_after-word.ensures refl c.put_whole.ensures.put
     c.extract-held.ensures _ (omega arith)
 
 pub loop-bit_pair-preserved-then-bits-ge-BYTE_WIDTH : goal.loop-bit_pair-preserved-then-bits-ge-BYTE_WIDTH
@@ -88,7 +88,7 @@ loop-bit_pair-preserved-then-bits-ge-BYTE_WIDTH g c =
     record {
       over = w.over;
       run =
-          goes-on-past w.run e t c.number_of-one.ensures c.number_of-two.ensures c.pair_after-word.ensures refl c.put_five.ensures.put
+          goes-on-past w.run e t c.number_of-one.ensures c.number_of-two.ensures c.pair_after-word.ensures refl c.put_whole.ensures.put
           c.extract-held.ensures _ (omega arith) (length_push _ _) c.put.ensures.put
           c.extract-held-then-bits-ge-BYTE_WIDTH.ensures;
     }

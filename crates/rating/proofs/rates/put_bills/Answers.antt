@@ -1,7 +1,6 @@
 -- A turn puts the next bill, 32 bits from a byte's start on, and adds it to the sum.
 use Rattle.std.proofs.Common.{◌∙◌, arith, get_or}
 use Rattle.plan.proofs.Fields.{Bytes}
-use Rattle.bits.proofs.Runs.{room}
 use Rattle.group.specs.Values.{losses_of}
 use Rattle.rating.proofs.Billing.{counted, bill-at, fits, billing-starts, next-put, billing-more, bills-summed, bills-put}
 use Rattle.rating.proofs.rates.put_bills.Goals as goal
@@ -11,12 +10,19 @@ loop-risk-init c =
     let bytes : Bytes c.args.out.now = λ i. omega (arith, c.type_inv.out i) in
     record { billing = billing-starts _ c.args.out.now c.requires; bytes = bytes; first = bytes }
 
-pub put_bytes-place-requires : goal.put_bytes-place-requires
-put_bytes-place-requires c =
+pub put_whole-place-requires : goal.put_whole-place-requires
+put_whole-place-requires c =
     let w = c.loop-risk.invariant.billing in
     let h = c.loop-risk-test.true in
     let e = c.bill_of-bill.ensures ∙ bill-at c.args.terms c.args.losses.now c.loop-risk.risk-index _ h in
-    (room (next-put _ c.args.out.now c.requires w (omega (arith, h, counted c.args.losses.now)) e).space (omega arith), w.whole)
+    let space = (next-put _ c.args.out.now c.requires w (omega (arith, h, counted c.args.losses.now)) e).space in
+    record {
+      few = omega arith;
+      begins = w.whole;
+      next = omega (arith, space.reach);
+      within = omega (arith, space.within);
+      fits = space.fitting.0;
+    }
 
 pub loop-risk-preserved : goal.loop-risk-preserved
 loop-risk-preserved c =
@@ -27,7 +33,7 @@ loop-risk-preserved c =
       billing =
           billing-more _ c.args.out.now c.requires w (omega (arith, h, counted c.args.losses.now)) e
           (omega (arith, c.bill_of-bill.ensures, fits (losses_of c.args.losses.now) c.args.out.now c.requires (get_or c.args.losses.now c.loop-risk.risk-index (record { total = 0; limited = 0 })).limited))
-          (c.put_bytes-place.ensures.next, c.put_bytes-place.ensures.put);
+          (c.put_whole-place.ensures.next, c.put_whole-place.ensures.put);
       bytes = λ i. omega (arith, c.type_inv.out i);
       first = c.loop-risk.invariant.first;
     }
