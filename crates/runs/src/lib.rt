@@ -50,6 +50,7 @@ fn put_run<const EDITION: u32>(
         let one = number_of::<EDITION>(bit_pair[0], claim_pair[0]);
         let two = number_of::<EDITION>(bit_pair[1], claim_pair[1]);
         let word = pair_after(held, width, one, two);
+        // what a pair has beyond its five bytes is held too
         bits = bits + 2 * width - BYTE_WIDTH * PAIR_BYTES as u32;
         BitPlace { at: 8 * byte }.put_whole::<5>(out, word >> bits);
         held = extract(word, 0, bits);
