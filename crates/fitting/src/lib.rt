@@ -53,9 +53,10 @@ fn counts_add(counts: &[u8], claims: usize) -> bool
 fn claims_fit(claims: &[u32]) -> bool
     ensures { result ≡ all_fit dollars_width claims.now }
 {
-    claims
-        .iter()
-        .fold(true, |fit, &dollars| fit & value_fits(DOLLARS_WIDTH, dollars))
+    claims.iter().fold(
+        true,
+        |fit, &dollars| fit & value_fits(DOLLARS_WIDTH, dollars),
+    )
 }
 
 // Whether the bits of the claims fit their width in an edition: where that is no bits, each is 0. The greatest is looked for in a

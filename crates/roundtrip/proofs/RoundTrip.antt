@@ -16,24 +16,23 @@ use Rattle.plan.proofs.Questions.{given-passed, passed-both, file-sound}
 use Rattle.plan.proofs.Decoded.{Matching, own-matching}
 use Rattle.plan.proofs.Filled.{first-filled}
 use Rattle.plan.proofs.RoundTrip as plan-trips
+use Rattle.std.proofs.Common.{Result, Ok, Err}
+use Rattle.group.specs.Refusals.{answer_is}
 use Rattle.group.specs.Values.{header_is}
+use Rattle.group.specs.declared.Refusal.{Refusal}
 use Rattle.group.specs.declared.Header.{Header}
 use Rattle.reading.specs.Reading.{ValuesGiven, values_given, read_is, Buffers, read_with, ReadSays}
 use Rattle.reading.specs.declared.ReadValues.{ReadValues}
-use Rattle.reading.specs.declared.GroupRead.{GroupRead}
-use Rattle.reading.specs.declared.GroupRead.TheVariants as reads
-use Rattle.writing.specs.Writer.{given_group, length_is, WriteSays}
-use Rattle.writing.specs.declared.writer.Written.{Written}
-use Rattle.writing.specs.declared.writer.Written.TheVariants as writes
+use Rattle.writing.specs.Writer.{given_group, WriteSays}
 
 -- the answer that a length is of
-length-given : (r : Written) {n : ℕ} → length_is r ≡ given n → r ≡ writes.Length n
-length-given (writes.Length m) e = ap writes.Length (cc)
-length-given (writes.Refused k) e = cc
+length-given : (r : Result ℕ Refusal) {n : ℕ} → answer_is (λ m. m) r ≡ given n → r ≡ Ok n
+length-given (Ok m) e = ap Ok (cc)
+length-given (Err refusal) e = cc
 
 -- ---- Write of what Read gave
 
-module _ (s : List ℕ) (old new : Buffers) (v : ReadValues) (bytes : Bytes s) (was_read : ReadSays s old (reads.Given v) new) where
+module _ (s : List ℕ) (old new : Buffers) (v : ReadValues) (bytes : Bytes s) (was_read : ReadSays s old (Ok v) new) where
   gave : Gave values_given (read_with s old) (record { edition = v.edition; risks = v.risks; header = header_is v.header })
   gave = giving-given values_given (read_with s old) was_read.answer
 
@@ -75,8 +74,8 @@ module _ (s : List ℕ) (old new : Buffers) (v : ReadValues) (bytes : Bytes s) (
   handed = given_group v.edition v.header (take v.risks new.counts) (take many new.claims) (take many new.joined)
 
   -- 'Write of what Read gives yields the same bytes'
-  pub read-then-write : (old_file new_file : List ℕ) (r : Written) → length s ≤ length old_file → WriteSays handed old_file r new_file
-      → (r ≡ writes.Length (length s)) × (new_file ≡ filled s old_file)
+  pub read-then-write : (old_file new_file : List ℕ) (r : Result ℕ Refusal) → length s ≤ length old_file → WriteSays handed old_file r new_file
+      → (r ≡ Ok (length s)) × (new_file ≡ filled s old_file)
   read-then-write old_file new_file r enough says =
       let same : handed ≡ group =
       λ i. record {
@@ -97,7 +96,7 @@ module _ (s : List ℕ) (old new : Buffers) (v : ReadValues) (bytes : Bytes s) (
 -- ---- Read of what Write made
 
 module _ (edition : ℕ) (h : Header) (counts claims joined old new : List ℕ) (n : ℕ)
-    (was-written : WriteSays (given_group edition h counts claims joined) old (writes.Length n) new) where
+    (was-written : WriteSays (given_group edition h counts claims joined) old (Ok n) new) where
   -- the values that were given
   abbrev values : Group
   values = given_group edition h counts claims joined
@@ -112,10 +111,10 @@ module _ (edition : ℕ) (h : Header) (counts claims joined old new : List ℕ) 
       ∙ first-filled made.value old (sym made.part)
 
   -- 'Read of the result gives those values back'
-  pub write-then-read : (before after : Buffers) (r : GroupRead)
+  pub write-then-read : (before after : Buffers) (r : Result ReadValues Refusal)
       → length counts ≤ length before.counts → length claims ≤ length before.claims → length claims ≤ length before.joined
       → ReadSays (take n new) before r after
-      → (read_is r ≡ given (record { edition = edition; risks = length counts; header = header_is h }))
+      → (answer_is read_is r ≡ given (record { edition = edition; risks = length counts; header = header_is h }))
       × (after.counts ≡ filled counts before.counts) × (after.claims ≡ filled claims before.claims)
       × (after.joined ≡ filled joined before.joined)
   write-then-read before after r enough-counts enough-claims enough-joined says =
