@@ -1,14 +1,8 @@
--- What is asked of the list of bits. Of the greatest entry it is asked whether it fits. Question 19 is asked of given counts and
--- bits: the dollars of the claims have no part in it, so an answer holds of claims of any dollars.
-use Rattle.std.specs.Prelude.{◌≡◌, Bool, ◌&&◌, List, ℕ, length}
-use Rattle.plan.specs.Field.{fits}
+-- Question 19 of given counts and bits: the dollars of the claims have no part in it, so an answer holds of claims of any dollars.
+use Rattle.std.specs.Prelude.{◌≡◌, Bool, List, ℕ, length}
 use Rattle.plan.specs.Claim.{claims_of}
 use Rattle.plan.specs.Risk.{divided}
 use Rattle.plan.specs.Accidents.{opens, all_open}
-
--- r fits any width where both a and b do
-abbrev pub FitsAsBoth : ℕ → ℕ → ℕ → Type 0
-FitsAsBoth a b r = (w : ℕ) → fits w r ≡ (fits w a && fits w b)
 
 -- r answers whether a risk of these bits has the bit 0 in its first claim
 abbrev pub OpensSays : List ℕ → Bool → Type 0
