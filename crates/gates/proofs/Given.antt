@@ -1,25 +1,22 @@
 -- What the gate of questions 1 to 12 gives, to a call that goes on from it: where it gives terms, the questions pass, the terms are
--- the file's own and within their bounds, and the bills by them are step 6's premiums. Assumes nothing.
-use Rattle.std.proofs.Common.{◌≡◌, sym, ap, ap₂, ◌∙◌, subst, List, map, ℕ, ◌≤◌, length, arith, Ok}
+-- the file's own, and the bills by them are step 6's premiums. Assumes nothing.
+use Rattle.std.proofs.Common.{◌≡◌, sym, ap, ap₂, ◌∙◌, List, map, ℕ, ◌≤◌, length, arith, Ok}
 use Rattle.plan.specs.Sizes.{most_risks}
 use Rattle.plan.specs.Header.{header_of, risk_count}
 use Rattle.plan.specs.Losses.{Losses, losses_in}
 use Rattle.plan.specs.Premium as plan
 use Rattle.plan.specs.Premium.{terms_of, bill_with, billed_premiums}
 use Rattle.plan.specs.Questions.{passed, first_no, rating_questions}
-use Rattle.plan.specs.Bounds.{TermsBounds}
 use Rattle.plan.specs.Calls.{answer}
-use Rattle.plan.proofs.Questions.{given-passed, rating-sound}
+use Rattle.plan.proofs.Questions.{given-passed}
 use Rattle.plan.proofs.Losses.{length-losses}
-use Rattle.plan.proofs.FileSizes.{group-bounds}
-use Rattle.plan.proofs.GroupSizes.{terms-bounds}
 use Rattle.group.specs.Refusals.{answer_is}
 use Rattle.group.specs.Values.{losses_is, LossesAre}
 use Rattle.group.specs.declared.GroupLosses.{GroupLosses}
 use Rattle.steps.specs.Terms.{terms_is}
 use Rattle.steps.specs.declared.bill.Terms.{Terms}
 
-module _ (s : List ℕ) {t : Terms}
+module _ (s : List ℕ) (t : Terms)
     (gave : answer_is terms_is (Ok t) ≡ answer (first_no (rating_questions s)) (terms_of (header_of s) (losses_in s))) where
   pub passes : first_no (rating_questions s) ≡ passed
   passes = (given-passed (first_no (rating_questions s)) (terms_of (header_of s) (losses_in s)) (terms_is t) (sym gave)).0
@@ -28,17 +25,11 @@ module _ (s : List ℕ) {t : Terms}
   pub terms-are : terms_is t ≡ terms_of (header_of s) (losses_in s)
   terms-are = sym (given-passed (first_no (rating_questions s)) (terms_of (header_of s) (losses_in s)) (terms_is t) (sym gave)).1
 
-  pub terms-within : TermsBounds (terms_is t)
-  terms-within =
-      let f = rating-sound s passes in
-      subst TermsBounds (sym terms-are)
-      (terms-bounds (header_of s) (losses_in s) (group-bounds s f.losses.file) f.balance)
-
   pub risks_are : t.risks ≡ length (losses_in s)
   risks_are = ap (λ (x : plan.Terms). x.risks) terms-are
 
   pub group-few : length (losses_in s) ≤ most_risks
-  group-few = omega (arith, terms-within.few, risks_are)
+  group-few = omega (arith, t.few, risks_are)
 
   pub risk-count : t.risks ≡ risk_count s
   risk-count = risks_are ∙ length-losses s

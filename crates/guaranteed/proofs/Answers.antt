@@ -59,7 +59,7 @@ module _ (s : List ℕ) (ls : List Layer) (old_premiums : List ℕ) (old_differe
 -- ---- what a call says that is not refused
 
 -- questions 1 to 12 gave terms, and 13, 16 and 17 passed
-module _ (s : List ℕ) (ls : List Layer) {t : Terms}
+module _ (s : List ℕ) (ls : List Layer) (t : Terms)
     (gave : answer_is terms_is (Ok t) ≡ answer (first_no (rating_questions s)) (terms_of (header_of s) (losses_in s)))
     {g : GroupLosses} (losses : LossesAre (losses_in s) g) (old_premiums : List ℕ) (old_differences : List ℤ)
     (asked : last_verdict s ls old_premiums old_differences ≡ passed) where
@@ -69,7 +69,7 @@ module _ (s : List ℕ) (ls : List Layer) {t : Terms}
 
   is-given : compare s ls (length old_premiums) (length old_differences) ≡ given all
   unfolding compare
-  is-given = answered all (verdict s ls old_premiums old_differences (passes s gave) asked)
+  is-given = answered all (verdict s ls old_premiums old_differences (passes s t gave) asked)
 
   -- 13 and 16, as what the code needs them for
   thirteen : compare_enough s (length old_premiums) (length old_differences) ≡ true
@@ -81,10 +81,10 @@ module _ (s : List ℕ) (ls : List Layer) {t : Terms}
   enough = both (rate_enough s (length old_premiums)) (leb (risk_count s) (length old_differences)) thirteen
 
   pub room : 4 * t.risks ≤ length old_premiums
-  room = omega (arith, leb-true (4 * risk_count s) (length old_premiums) enough.0, risk-count s gave)
+  room = omega (arith, leb-true (4 * risk_count s) (length old_premiums) enough.0, risk-count s t gave)
 
   pub room-too : t.risks ≤ length old_differences
-  room-too = omega (arith, leb-true (risk_count s) (length old_differences) enough.1, risk-count s gave)
+  room-too = omega (arith, leb-true (risk_count s) (length old_differences) enough.1, risk-count s t gave)
 
   pub rates : rates_pass ls ≡ true
   rates =
@@ -107,15 +107,15 @@ module _ (s : List ℕ) (ls : List Layer) {t : Terms}
     -- the differences of the file's own bills
     differences_are : differences_of c.guaranteed (bills_of t (losses_is g)) ≡ all.differences
     unfolding comparison_of
-    differences_are = λ i. differences_of (cost-is i) (bills-are s gave losses i)
+    differences_are = λ i. differences_of (cost-is i) (bills-are s t gave losses i)
 
     numbers_are : numbers_given c ≡ numbers_with all t.basic
     unfolding comparison_of rated_of
     numbers_are = λ i. record {
-      risks = (risks ∙ ap (λ (x : plan.Terms). x.risks) (terms-are s gave)) i;
+      risks = (risks ∙ ap (λ (x : plan.Terms). x.risks) (terms-are s t gave)) i;
       basic = basic i;
-      excess = (excess ∙ ap (λ (x : plan.Terms). x.excess) (terms-are s gave)) i;
-      billed = (billed ∙ ap sum (bills-are s gave losses)) i;
+      excess = (excess ∙ ap (λ (x : plan.Terms). x.excess) (terms-are s t gave)) i;
+      billed = (billed ∙ ap sum (bills-are s t gave losses)) i;
       discount = discounted i;
       guaranteed = cost-is i;
       difference = (summed ∙ ap (sum_z (λ z. z)) differences_are) i;
@@ -123,11 +123,11 @@ module _ (s : List ℕ) (ls : List Layer) {t : Terms}
 
     basic_after : pos t.basic ≡ all.rated.basic
     unfolding comparison_of rated_of
-    basic_after = ap (λ (x : plan.Terms). x.basic) (terms-are s gave)
+    basic_after = ap (λ (x : plan.Terms). x.basic) (terms-are s t gave)
 
     left : premiums ≡ filled (premium_bytes all.rated) old_premiums
     unfolding comparison_of rated_of
-    left = put ∙ ap (λ (ps : List ℕ). filled (bytes_of (slots 32 ps)) old_premiums) (bills-are s gave losses)
+    left = put ∙ ap (λ (ps : List ℕ). filled (bytes_of (slots 32 ps)) old_premiums) (bills-are s t gave losses)
 
     left-too : differences ≡ filled all.differences old_differences
     left-too = put-too ∙ ap (λ (zs : List ℤ). filled zs old_differences) differences_are

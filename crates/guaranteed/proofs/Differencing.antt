@@ -1,6 +1,6 @@
 -- The loop that puts the differences: the first i of them lie in the buffer, and their sum is what the bills so far come to less as
 -- often guaranteed cost. Assumes nothing.
-use Rattle.std.proofs.Common.{◌≡◌, refl, sym, ap, ◌∙◌, subst, List, [], ◌∷◌, ◌++◌, ℕ, ◌+◌, ◌*◌, ◌^◌, ◌≤◌, ◌<◌}
+use Rattle.std.proofs.Common.{◌≡◌, sym, ap, ◌∙◌, subst, List, [], ◌∷◌, ◌++◌, ℕ, ◌+◌, ◌*◌, ◌^◌, ◌≤◌, ◌<◌}
 use Rattle.std.proofs.Common.{ℤ, ◌+ℤ◌, ◌-ℤ◌, length, get_or, set, take, drop, drop-cons, add-one, arith}
 use Rattle.std.proofs.lemmas.List.{length-map, map-append}
 use Rattle.std.proofs.Math.IntN.{pos}
@@ -11,14 +11,11 @@ use Rattle.std.proofs.Math.Seq.{take-suc, take-length, length-take-le}
 use Rattle.plan.specs.Arithmetic.{sum, sum_z}
 use Rattle.plan.specs.Losses.{Losses}
 use Rattle.plan.specs.Sizes.{most_risks}
-use Rattle.plan.specs.Premium.{bill_with}
 use Rattle.plan.specs.Calls.{filled}
 use Rattle.plan.specs.Comparison.{differences_of}
 use Rattle.plan.proofs.Differences.{Differs, of-pos, of-add, of-minus, same, mag-lt}
 use Rattle.plan.proofs.Filled.{filled_none, length-filled, filled_more}
-use Rattle.plan.proofs.Bills.{bill-lt}
 use Rattle.plan.proofs.Comparisons.{added}
-use Rattle.steps.specs.Terms.{terms_is}
 use Rattle.steps.specs.declared.bill.Terms.{Terms}
 use Rattle.rating.specs.Bills.{bills_of}
 use Rattle.guaranteed.specs.Comparisons.{Differing}
@@ -36,7 +33,7 @@ pub record Differencing (bills : List ℕ) (cost : ℕ) (old : List ℤ) (i : �
 pub difference-fits : {a b : ℕ} → a < 2 ^ 32 → b < 2 ^ 32 → mag (pos a -ℤ pos b) < 2 ^ 63
 difference-fits {a} {b} h k = mag-lt (pos a -ℤ pos b) (of-minus (pos a) (pos b) (of-pos a) (of-pos b)) (omega (arith, h)) (omega (arith, k))
 
-module _ {t : Terms} (rs : List Losses) (cost : ℕ) (old : List ℤ) (d : Differing t rs (length old)) where
+module _ (t : Terms) (rs : List Losses) (cost : ℕ) (old : List ℤ) (d : Differing rs (length old)) where
   abbrev bills : List ℕ
   bills = bills_of t rs
 
@@ -52,9 +49,6 @@ module _ {t : Terms} (rs : List Losses) (cost : ℕ) (old : List ℤ) (d : Diffe
     total_is = record { is = omega arith };
     puts = filled_none old;
   }
-
-  pub bill_fits : (a : ℕ) → bill_with (terms_is t) a < 2 ^ 31
-  bill_fits a = bill-lt (terms_is t) d.bounds t.basic refl a
 
   module _ {i : ℕ} {total : ℤ} {present : List ℤ} (w : Differencing bills cost old i total present) where
     put-length : length (differences_of cost (take i bills)) ≡ i

@@ -1,6 +1,5 @@
 -- The call's answer as document 02's, and what putting the differences asks for.
 use Rattle.std.specs.Prelude.{◌≡◌, List, ℕ, ◌≤◌, ℤ, pos, length, Result, Ok, Err}
-use Rattle.plan.specs.Bounds.{TermsBounds}
 use Rattle.plan.specs.Discount.{Layer}
 use Rattle.plan.specs.Comparison as plan
 use Rattle.plan.specs.Comparison.{NumbersGiven, Beside, compare_premiums, compare_differences}
@@ -10,13 +9,10 @@ use Rattle.plan.specs.Sizes.{most_risks}
 use Rattle.group.specs.Refusals.{answer_is}
 use Rattle.group.specs.declared.Refusal.{Refusal}
 use Rattle.rating.specs.Rates as rates
-use Rattle.steps.specs.Terms.{terms_is}
-use Rattle.steps.specs.declared.bill.Terms.{Terms}
 use Rattle.guaranteed.specs.declared.Comparison.{Comparison}
 
--- terms by which every bill fits 32 bits, and room for a difference of each risk
-pub record Differing (t : Terms) (rs : List Losses) (room : ℕ) : Type 0 where
-  pub bounds : TermsBounds (terms_is t)
+-- as many risks as a group has, and room for a difference of each
+pub record Differing (rs : List Losses) (room : ℕ) : Type 0 where
   pub few : length rs ≤ most_risks
   pub enough : length rs ≤ room
 

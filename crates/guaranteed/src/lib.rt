@@ -20,7 +20,7 @@ use discount::schedule::{Schedule, schedule_verdict};
 use gates::{RatingOpened, open_rating};
 use group::{Losses, Refusal};
 use rating::rates::{GroupFigures, put_bills};
-use steps::bill::{Terms, bill_of};
+use steps::bill::Terms;
 
 // What the call gives beside the premiums and the differences: what Rate gives, the discount, guaranteed cost, and the sum of
 // the differences.
@@ -50,14 +50,14 @@ fn sum_of(total: i64, difference: i64) -> i64
 // Puts what each risk is billed above or below guaranteed cost into a buffer with room; their sum. It asks nothing and stores
 // nothing else.
 fn put_differences(terms: Terms, losses: &[Losses], cost: u32, out: &mut [i64]) -> i64
-    requires { Differing terms (losses_of losses.now) (length out.old) }
+    requires { Differing (losses_of losses.now) (length out.old) }
     ensures summed { result ≡ sum_z (λ z. z) (differences_of cost (bills_of terms (losses_of losses.now))) }
     ensures put { out.new
         ≡ filled (differences_of cost (bills_of terms (losses_of losses.now))) out.old }
 {
     let mut total: i64 = 0;
     for (i, risk) in losses.iter().enumerate() {
-        let bill = bill_of(terms, risk.limited);
+        let bill = terms.bill_of(risk.limited);
         let difference = difference_of(bill, cost);
         out[i] = difference;
         total = sum_of(total, difference);

@@ -45,23 +45,23 @@ module _ (s old : List ℕ) where
 
 -- ---- what a rated file's call says
 
-module _ (s : List ℕ) {t : Terms}
+module _ (s : List ℕ) (t : Terms)
     (gave : answer_is terms_is (Ok t) ≡ answer (first_no (rating_questions s)) (terms_of (header_of s) (losses_in s)))
     {g : GroupLosses} (losses : LossesAre (losses_in s) g) (old new : List ℕ) {billed : ℕ} (room : 4 * t.risks ≤ length old)
     (summed : billed ≡ sum (bills_of t (losses_is g))) (put : new ≡ filled (bytes_of (slots 32 (bills_of t (losses_is g)))) old) where
   is-given : rate s (length old) ≡ given (rated_of (header_of s) (losses_in s))
   unfolding rate
   is-given =
-      let enough : 4 * risk_count s ≤ length old = omega (arith, room, risk-count s gave) in
-      answered (rated_of (header_of s) (losses_in s)) (verdict s old (passes s gave) (le-leb _ _ enough))
+      let enough : 4 * risk_count s ≤ length old = omega (arith, room, risk-count s t gave) in
+      answered (rated_of (header_of s) (losses_in s)) (verdict s old (passes s t gave) (le-leb _ _ enough))
 
   billed_is : billed ≡ sum (billed_premiums (header_of s) (losses_in s))
-  billed_is = summed ∙ ap sum (bills-are s gave losses)
+  billed_is = summed ∙ ap sum (bills-are s t gave losses)
 
   left : new ≡ rate_buffer s old
   unfolding rated_of
   left =
-      put ∙ ap (λ (ps : List ℕ). filled (bytes_of (slots 32 ps)) old) (bills-are s gave losses)
+      put ∙ ap (λ (ps : List ℕ). filled (bytes_of (slots 32 ps)) old) (bills-are s t gave losses)
       ∙ sym (ap (λ (a : Answer Rated). buffer_after premium_bytes a old) is-given)
 
   pub given-says : RateSays s old
@@ -70,9 +70,9 @@ module _ (s : List ℕ) {t : Terms}
   given-says = record {
     answer =
         (λ i. given (record {
-          risks = (terms-are s gave i).risks;
-          basic = (terms-are s gave i).basic;
-          excess = (terms-are s gave i).excess;
+          risks = (terms-are s t gave i).risks;
+          basic = (terms-are s t gave i).basic;
+          excess = (terms-are s t gave i).excess;
           billed = billed_is i;
         }))
         ∙ sym (ap (giving figures_of) is-given);
@@ -82,6 +82,6 @@ module _ (s : List ℕ) {t : Terms}
   pub demanded : Demand3 s t.basic t.excess billed new
   unfolding rated_of
   demanded =
-      let d = demand3 s old (rated_of (header_of s) (losses_in s)) t.basic is-given (ap (λ (x : plan.Terms). x.basic) (terms-are s gave)) in
-      subst₂ (λ (q b : ℕ). Demand3 s t.basic q b new) (sym (ap (λ (x : plan.Terms). x.excess) (terms-are s gave))) (sym billed_is)
+      let d = demand3 s old (rated_of (header_of s) (losses_in s)) t.basic is-given (ap (λ (x : plan.Terms). x.basic) (terms-are s t gave)) in
+      subst₂ (λ (q b : ℕ). Demand3 s t.basic q b new) (sym (ap (λ (x : plan.Terms). x.excess) (terms-are s t gave))) (sym billed_is)
       (subst (Demand3 s t.basic (terms_of (header_of s) (losses_in s)).excess (sum (billed_premiums (header_of s) (losses_in s)))) (sym left) d)

@@ -21,6 +21,7 @@ use Rattle.bits.proofs.Runs.{Putting, putting-starts, putting-as, putting-more, 
 use Rattle.bits.proofs.WholeBytes.{fields-put}
 use Rattle.group.specs.Values.{losses_of}
 use Rattle.group.specs.declared.Losses as group
+use Rattle.steps.proofs.Bounds.{within}
 use Rattle.steps.specs.Terms.{terms_is}
 use Rattle.steps.specs.declared.bill.Terms.{Terms}
 use Rattle.rating.specs.Bills.{bills_of, Billable}
@@ -36,6 +37,10 @@ bill-at t [] i d h = absurd (omega arith)
 bill-at t (x ∷ xs) zero d h = refl
 bill-at t (x ∷ xs) (suc i) d h = bill-at t xs i d (omega arith)
 
+-- a bill fits 31 bits
+pub fits : (t : Terms) (a : ℕ) → bill_with (terms_is t) a < 2 ^ 31
+fits t a = bill-lt (terms_is t) (within t) t.basic refl a
+
 -- of bills, i are put and summed, and the next goes to the place p
 pub record Billing (bills old : List ℕ) (i p billed : ℕ) (present : List ℕ) : Type 0 where
   pub whole : p % 8 ≡ 0
@@ -43,10 +48,7 @@ pub record Billing (bills old : List ℕ) (i p billed : ℕ) (present : List ℕ
   pub sums : billed + sum (drop i bills) ≡ sum bills
   pub puts : Putting old 0 (slots 32 bills) present p (slots 32 (drop i bills))
 
-module _ {t : Terms} (rs : List Losses) (old : List ℕ) (b : Billable t rs old) where
-  pub fits : (a : ℕ) → bill_with (terms_is t) a < 2 ^ 31
-  fits a = bill-lt (terms_is t) b.bounds t.basic refl a
-
+module _ (t : Terms) (rs : List Losses) (old : List ℕ) (b : Billable rs old) where
   abbrev bills : List ℕ
   bills = bills_of t rs
 
@@ -54,7 +56,7 @@ module _ {t : Terms} (rs : List Losses) (old : List ℕ) (b : Billable t rs old)
   count = length-map rs _
 
   fitting : (xs : List Losses) → Fitting (slots 32 (bills_of t xs))
-  fitting = fitting-map 32 (λ (r : Losses). bill_with (terms_is t) r.limited) (λ r. lt_trans (fits r.limited) (lit< tt))
+  fitting = fitting-map 32 (λ (r : Losses). bill_with (terms_is t) r.limited) (λ r. lt_trans (fits t r.limited) (lit< tt))
 
   wide : total_width (slots 32 bills) ≡ 32 * length rs
   wide = omega (arith, width-slots 32 bills, count)

@@ -3,7 +3,6 @@ use Rattle.std.specs.Prelude.{List, map, ℕ, ◌*◌, ◌≤◌, length}
 use Rattle.plan.specs.Sizes.{most_risks}
 use Rattle.plan.specs.Losses.{Losses}
 use Rattle.plan.specs.Premium.{bill_with}
-use Rattle.plan.specs.Bounds.{TermsBounds}
 use Rattle.steps.specs.Terms.{terms_is}
 use Rattle.steps.specs.declared.bill.Terms.{Terms}
 
@@ -11,8 +10,7 @@ use Rattle.steps.specs.declared.bill.Terms.{Terms}
 abbrev pub bills_of : Terms → List Losses → List ℕ
 bills_of t rs = map (λ r. bill_with (terms_is t) r.limited) rs
 
--- terms by which every bill fits 32 bits, and a buffer with room for the bills
-pub record Billable (t : Terms) (rs : List Losses) (out : List ℕ) : Type 0 where
-  pub bounds : TermsBounds (terms_is t)
+-- as many risks as a group has, and a buffer with room for their bills
+pub record Billable (rs : List Losses) (out : List ℕ) : Type 0 where
   pub few : length rs ≤ most_risks
   pub enough : 4 * length rs ≤ length out

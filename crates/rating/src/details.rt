@@ -7,7 +7,7 @@ ghost use Rattle.rating.specs.Details.{DetailsAre};
 use arrayvec::ArrayVec;
 use gates::{RatingOpened, open_rating};
 use group::{GroupLosses, Losses, MOST_RISKS};
-use steps::bill::ratable_of;
+use steps::ratable::ratable_of;
 
 // The losses, and K of each risk; where the file is refused there is no K.
 #[derive(Drop)]

@@ -10,7 +10,7 @@ ghost use Rattle.rating.specs.Rates.{RateSays, Demanded};
 use bits::BitPlace;
 use gates::{RatingOpened, open_rating};
 use group::{Losses, Refusal};
-use steps::bill::{Terms, bill_of};
+use steps::bill::Terms;
 
 // What Rate gives beside the premiums: n, M, Q and the sum billed.
 #[derive(Clone, Copy)]
@@ -24,7 +24,7 @@ pub struct GroupFigures {
 // Puts the bill of each risk into a buffer with room, 32 bits each from its start on; their sum. It asks nothing and stores
 // nothing else, so that a call can ask further questions first.
 pub fn put_bills(terms: Terms, losses: &[Losses], out: &mut [u8]) -> u64
-    requires { Billable terms (losses_of losses.now) out.old }
+    requires { Billable (losses_of losses.now) out.old }
     ensures summed { result ≡ sum (bills_of terms (losses_of losses.now)) }
     ensures put { out.new
         ≡ filled (bytes_of (slots 32 (bills_of terms (losses_of losses.now)))) out.old }
@@ -32,7 +32,7 @@ pub fn put_bills(terms: Terms, losses: &[Losses], out: &mut [u8]) -> u64
     let mut billed: u64 = 0;
     let mut place = BitPlace { at: 0 };
     for risk in losses {
-        let bill = bill_of(terms, risk.limited);
+        let bill = terms.bill_of(risk.limited);
         place = place.put_whole::<4>(out, bill as u64);
         billed += bill as u64;
     }

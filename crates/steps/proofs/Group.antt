@@ -14,7 +14,6 @@ use Rattle.group.specs.declared.Header.{Header}
 use Rattle.group.specs.declared.GroupLosses.{GroupLosses}
 use Rattle.group.proofs.Group.{risks}
 use Rattle.steps.specs.Basic.{BasicBounds}
-use Rattle.steps.specs.Terms.{terms_is}
 use Rattle.steps.specs.Marks.{MarksAre}
 use Rattle.steps.specs.declared.balance.MarkDollars.{MarkDollars}
 
@@ -27,15 +26,15 @@ module _ {h : Header} {g : GroupLosses} (b : GroupIs h g) {n : ℕ} (count : n �
   -- the terms, once M is known
   pub terms-are : {basic excess : ℕ} → pos basic ≡ basic_premium (header_is h) (losses_is g)
       → excess ≡ h.conversion * (g.total - g.limited)
-      → terms_is (record {
+      → record {
         risks = n;
         conversion = h.conversion;
         tax = h.tax;
-        basic = basic;
+        basic = pos basic;
         excess = excess;
         minimum = m.minimum;
         maximum = m.maximum;
-      })
+      }
       ≡ terms_of (header_is h) (losses_is g)
   unfolding excess_charge
   terms-are is q =

@@ -1,14 +1,13 @@
 // Step 6: the bill of one risk, by the terms that the bills of its group share.
-ghost use Rattle.std.specs.Prelude.{◌≡◌};
-ghost use Rattle.plan.specs.Bounds.{TermsBounds};
-ghost use Rattle.plan.specs.Premium.{bill_with};
-ghost use Rattle.plan.specs.Ratable.{clamp};
-ghost use Rattle.steps.specs.Terms.{terms_is};
+ghost use Rattle.std.specs.Prelude.{◌+◌, ◌*◌, ◌≤◌};
+ghost use Rattle.plan.specs.Sizes.{most_risks, most_dollars, most_shared};
+
+use crate::ratable::ratable_of;
 
 // A premium is compared over whole numbers, times this and times n.
 pub const PREMIUM_SCALE: u64 = 10000000;
 
-// What the bills of a group share: n, c, T, M, Q, LH and LG.
+// What the bills of a group share: n, c, T, M, Q, LH and LG, by which every bill fits 32 bits.
 #[derive(Clone, Copy)]
 pub struct Terms {
     pub risks: u32,
@@ -18,24 +17,27 @@ pub struct Terms {
     pub excess: u64,
     pub minimum: u32,
     pub maximum: u32,
+    pub ghost some: { 1 ≤ risks },
+    pub ghost few: { risks ≤ most_risks },
+    pub ghost conversion_most: { conversion ≤ 2000 },
+    pub ghost tax_most: { tax ≤ 20000 },
+    pub ghost shared: { basic + excess ≤ most_shared * risks },
+    pub ghost maximum_most: { maximum ≤ most_dollars },
 }
 
-// Step 3: K, a risk's limited losses raised to the minimum mark's dollars if below and cut to the maximum
-// mark's if above.
-pub fn ratable_of(limited: u32, minimum: u32, maximum: u32) -> u32
-    ensures { result ≡ clamp minimum maximum limited }
-{
-    limited.max(minimum).min(maximum)
-}
+impl Terms {
+    ghost use Rattle.std.specs.Prelude.{◌≡◌};
+    ghost use Rattle.plan.specs.Premium.{bill_with};
+    ghost use Rattle.steps.specs.Terms.{terms_is};
 
-// The bill of a risk by its limited losses: T × (M + Q + n × c × K) ÷ (10,000,000 × n) to the nearest dollar.
-pub fn bill_of(terms: Terms, limited: u32) -> u32
-    requires { TermsBounds (terms_is terms) }
-    ensures { result ≡ bill_with (terms_is terms) limited }
-{
-    let k = ratable_of(limited, terms.minimum, terms.maximum) as u64;
-    let n = terms.risks as u64;
-    let shared = terms.basic + terms.excess;
-    let numerator = terms.tax as u64 * (shared + n * terms.conversion as u64 * k);
-    ((numerator + PREMIUM_SCALE / 2 * n) / (PREMIUM_SCALE * n)) as u32
+    // The bill of a risk by its limited losses: T × (M + Q + n × c × K) ÷ (10,000,000 × n) to the nearest dollar.
+    pub fn bill_of(&self, limited: u32) -> u32
+        ensures { result ≡ bill_with (terms_is self.now) limited }
+    {
+        let k = ratable_of(limited, self.minimum, self.maximum) as u64;
+        let n = self.risks as u64;
+        let shared = self.basic + self.excess;
+        let numerator = self.tax as u64 * (shared + n * self.conversion as u64 * k);
+        ((numerator + PREMIUM_SCALE / 2 * n) / (PREMIUM_SCALE * n)) as u32
+    }
 }

@@ -5,4 +5,5 @@
 pub mod balance;
 pub mod basic;
 pub mod bill;
+pub mod ratable;
 pub mod spread;

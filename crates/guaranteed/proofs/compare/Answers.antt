@@ -20,7 +20,7 @@ use Rattle.steps.specs.Terms.{terms_is}
 use Rattle.steps.specs.declared.bill.Terms.{Terms}
 use Rattle.gates.specs.Gates.{RatingOpenedIs}
 use Rattle.gates.specs.declared.RatingOpened.{RatingOpened}
-use Rattle.gates.proofs.Given.{passes, terms-within, risks_are, risk-count}
+use Rattle.gates.proofs.Given.{passes, risks_are, risk-count}
 use Rattle.discount.specs.Schedules.{layers_of, Discountable}
 use Rattle.rating.specs.Bills.{bills_of, Billable}
 use Rattle.guaranteed.specs.Comparisons.{Differing}
@@ -30,42 +30,40 @@ use Rattle.guaranteed.proofs.compare.Goals.{In_ok-schedule_verdict}
 
 -- ---- what is known where the terms of the file s are given
 
-module _ (s : List ℕ) (ls : List Layer) (premiums : List ℕ) (differences : List ℤ) {t : Terms}
+module _ (s : List ℕ) (ls : List Layer) (premiums : List ℕ) (differences : List ℤ) (t : Terms)
     (gave : answer_is terms_is (Ok t) ≡ answer (first_no (rating_questions s)) (terms_of (header_of s) (losses_in s))) where
   -- what the code asks after 12 is what the call asks
   last_is : {v w : Verdict} → first_no (question13 (leb (4 * t.risks) (length premiums) && leb t.risks (length differences)) ∷ []) ≡ v
       → first_no (schedule_questions ls) ≡ w → last_verdict s ls premiums differences ≡ or_else v w
   last_is x y =
       let thirteen =
-      ap (λ (k : ℕ). first_no (question13 (leb (4 * k) (length premiums) && leb k (length differences)) ∷ [])) (sym (risk-count s gave)) ∙ x in
+      ap (λ (k : ℕ). first_no (question13 (leb (4 * k) (length premiums) && leb k (length differences)) ∷ [])) (sym (risk-count s t gave)) ∙ x in
       λ i. or_else (thirteen i) (y i)
 
   module _ {o : RatingOpened} (x : RatingOpenedIs s o) (all : last_verdict s ls premiums differences ≡ passed) where
     -- the file's premium can be discounted
     discountable : Discountable ls o.header.standard_premium
     discountable =
-        let sound = rating-sound s (passes s gave) in
+        let sound = rating-sound s (passes s t gave) in
         record {
-          rates = rates s ls gave x.losses premiums differences all;
+          rates = rates s ls t gave x.losses premiums differences all;
           fits = omega (arith, ap (λ (h : Header). h.standard_premium) x.header, (group-bounds s sound.losses.file).premium);
         }
 
     count : length (losses_is o.losses) ≡ t.risks
-    count = ap length x.losses.each ∙ sym (risks_are s gave)
+    count = ap length x.losses.each ∙ sym (risks_are s t gave)
 
     -- and there is room for the bills and the differences of its risks
-    billable : Billable t (losses_is o.losses) premiums
+    billable : Billable (losses_is o.losses) premiums
     billable = record {
-      bounds = terms-within s gave;
-      few = omega (arith, count, (terms-within s gave).few);
-      enough = omega (arith, count, room s ls gave x.losses premiums differences all);
+      few = omega (arith, count, t.few);
+      enough = omega (arith, count, room s ls t gave x.losses premiums differences all);
     }
 
-    differing : Differing t (losses_is o.losses) (length differences)
+    differing : Differing (losses_is o.losses) (length differences)
     differing = record {
-      bounds = terms-within s gave;
-      few = omega (arith, count, (terms-within s gave).few);
-      enough = omega (arith, count, room-too s ls gave x.losses premiums differences all);
+      few = omega (arith, count, t.few);
+      enough = omega (arith, count, room-too s ls t gave x.losses premiums differences all);
     }
 
 -- ---- refusals
@@ -88,9 +86,9 @@ returns-in_err-room_verdict-clause-says c =
     let ls = layers_of a.schedule.layers in
     let gave = sym (ap (answer_is terms_is) c.in_ok-terms.was) ∙ c.open_rating-terms.ensures.terms in
     let no =
-    last_is s ls a.premiums.now a.differences.now gave (sym c.room_verdict.ensures ∙ ap verdict_is c.in_err-room_verdict.was) refl in
+    last_is s ls a.premiums.now a.differences.now c.in_ok-terms.terms gave (sym c.room_verdict.ensures ∙ ap verdict_is c.in_err-room_verdict.was) refl in
     let p = err_from_is_err_and c.from_residual-in_err-room_verdict.result c.from_residual-in_err-room_verdict.ensures.1 in
-    rw (p.1, p.2) (refused_says s ls a.premiums.now a.differences.now _ (verdict s ls a.premiums.now a.differences.now (passes s gave) no))
+    rw (p.1, p.2) (refused_says s ls a.premiums.now a.differences.now _ (verdict s ls a.premiums.now a.differences.now (passes s c.in_ok-terms.terms gave) no))
 
 pub returns-in_err-schedule_verdict-clause-says : goal.returns-in_err-schedule_verdict-clause-says
 returns-in_err-schedule_verdict-clause-says c =
@@ -99,10 +97,10 @@ returns-in_err-schedule_verdict-clause-says c =
     let ls = layers_of a.schedule.layers in
     let gave = sym (ap (answer_is terms_is) c.in_ok-terms.was) ∙ c.open_rating-terms.ensures.terms in
     let no =
-    last_is s ls a.premiums.now a.differences.now gave (sym c.room_verdict.ensures ∙ ap verdict_is c.in_ok-room_verdict.was)
+    last_is s ls a.premiums.now a.differences.now c.in_ok-terms.terms gave (sym c.room_verdict.ensures ∙ ap verdict_is c.in_ok-room_verdict.was)
     (sym c.schedule_verdict.ensures ∙ ap verdict_is c.in_err-schedule_verdict.was) in
     let p = err_from_is_err_and c.from_residual-in_err-schedule_verdict.result c.from_residual-in_err-schedule_verdict.ensures.1 in
-    rw (p.1, p.2) (refused_says s ls a.premiums.now a.differences.now _ (verdict s ls a.premiums.now a.differences.now (passes s gave) no))
+    rw (p.1, p.2) (refused_says s ls a.premiums.now a.differences.now _ (verdict s ls a.premiums.now a.differences.now (passes s c.in_ok-terms.terms gave) no))
 
 -- ---- the result
 
@@ -114,13 +112,13 @@ module _ (c : In_ok-schedule_verdict) where
 
   all-passed : last_verdict c.args.file.now (layers_of c.args.schedule.layers) c.args.premiums.now c.args.differences.now ≡ passed
   all-passed =
-      last_is c.args.file.now (layers_of c.args.schedule.layers) c.args.premiums.now c.args.differences.now gave
+      last_is c.args.file.now (layers_of c.args.schedule.layers) c.args.premiums.now c.args.differences.now c.in_ok-terms.terms gave
       (sym c.room_verdict.ensures ∙ ap verdict_is c.in_ok-room_verdict.was)
       (sym c.schedule_verdict.ensures ∙ ap verdict_is c.in_ok-schedule_verdict.was)
 
   to-discount : Discountable (layers_of c.args.schedule.layers) c.open_rating-terms.result.header.standard_premium
   to-discount =
-      discountable c.args.file.now (layers_of c.args.schedule.layers) c.args.premiums.now c.args.differences.now gave
+      discountable c.args.file.now (layers_of c.args.schedule.layers) c.args.premiums.now c.args.differences.now c.in_ok-terms.terms gave
       c.open_rating-terms.ensures all-passed
 
 pub discount_of-discount-requires : goal.discount_of-discount-requires
@@ -138,15 +136,15 @@ overflow_sub-guaranteed c =
 pub put_bills-billed-requires : goal.put_bills-billed-requires
 put_bills-billed-requires c =
     let p = (goal.at.put_bills-billed-requires c).In_ok-schedule_verdict in
-    subst (λ (l : List group.Losses). Billable c.in_ok-terms.terms (losses_of l) c.args.premiums.now) (sym c.deref.ensures.0)
-    (billable c.args.file.now (layers_of c.args.schedule.layers) c.args.premiums.now c.args.differences.now (gave p)
+    subst (λ (l : List group.Losses). Billable (losses_of l) c.args.premiums.now) (sym c.deref.ensures.0)
+    (billable c.args.file.now (layers_of c.args.schedule.layers) c.args.premiums.now c.args.differences.now c.in_ok-terms.terms (gave p)
     c.open_rating-terms.ensures (all-passed p))
 
 pub put_differences-difference-requires : goal.put_differences-difference-requires
 put_differences-difference-requires c =
     let p = (goal.at.put_differences-difference-requires c).In_ok-schedule_verdict in
-    subst (λ (l : List group.Losses). Differing c.in_ok-terms.terms (losses_of l) (length c.args.differences.now)) (sym c.deref-2.ensures.0)
-    (differing c.args.file.now (layers_of c.args.schedule.layers) c.args.premiums.now c.args.differences.now (gave p)
+    subst (λ (l : List group.Losses). Differing (losses_of l) (length c.args.differences.now)) (sym c.deref-2.ensures.0)
+    (differing c.args.file.now (layers_of c.args.schedule.layers) c.args.premiums.now c.args.differences.now c.in_ok-terms.terms (gave p)
     c.open_rating-terms.ensures (all-passed p))
 
 -- the bills and the differences are of the losses that the gate gave
@@ -176,7 +174,7 @@ returns-clause-says c =
     to_z-of_z {w = w64} (record { sfits = c.put_differences-difference.type_inv })
     ∙ d.summed
     ∙ ap (λ (l : List ℕ). sum_z (λ z. z) (differences_of (c.open_rating-terms.result.header.standard_premium - c.discount_of-discount.result) l)) (of-bills t c.deref-2.ensures.0) in
-    given-says c.args.file.now (layers_of c.args.schedule.layers) (gave p) x.losses c.args.premiums.now c.args.differences.now (all-passed p)
+    given-says c.args.file.now (layers_of c.args.schedule.layers) t (gave p) x.losses c.args.premiums.now c.args.differences.now (all-passed p)
     _ _ _ refl refl refl (bills.summed ∙ ap sum (of-bills t c.deref.ensures.0)) discount_is less summed
     (put-too t c.deref.ensures.0 _ bills.put) (differences-too t c.deref-2.ensures.0 _ _ d.put)
 
@@ -194,6 +192,6 @@ returns-clause-beside c =
     to_z-of_z {w = w64} (record { sfits = c.put_differences-difference.type_inv })
     ∙ d.summed
     ∙ ap (λ (l : List ℕ). sum_z (λ z. z) (differences_of (c.open_rating-terms.result.header.standard_premium - c.discount_of-discount.result) l)) (of-bills t c.deref-2.ensures.0) in
-    beside-given c.args.file.now (layers_of c.args.schedule.layers) (gave p) x.losses c.args.premiums.now c.args.differences.now (all-passed p)
+    beside-given c.args.file.now (layers_of c.args.schedule.layers) t (gave p) x.losses c.args.premiums.now c.args.differences.now (all-passed p)
     _ _ _ refl refl refl (bills.summed ∙ ap sum (of-bills t c.deref.ensures.0)) discount_is less summed
     (put-too t c.deref.ensures.0 _ bills.put) (differences-too t c.deref-2.ensures.0 _ _ d.put)

@@ -2,13 +2,13 @@
 use Rattle.std.proofs.Common.{◌≡◌, sym, ◌∙◌, subst, ℕ, ◌+◌, ◌^◌, ◌<◌, ℤ, pos, ◌-ℤ◌, length, get_or, set, w64, to_z, of_z, to_z-of_z, arith}
 use Rattle.group.specs.Values.{losses_of}
 use Rattle.rating.specs.Bills.{bills_of}
-use Rattle.rating.proofs.Billing.{counted, bill-at}
-use Rattle.guaranteed.proofs.Differencing.{Differencing, differencing-starts, bill_fits, differencing-more, sum_fits, differences-summed, differences-put}
+use Rattle.rating.proofs.Billing.{counted, fits, bill-at}
+use Rattle.guaranteed.proofs.Differencing.{Differencing, differencing-starts, differencing-more, sum_fits, differences-summed, differences-put}
 use Rattle.guaranteed.proofs.put_differences.Goals as goal
 use Rattle.guaranteed.proofs.put_differences.Goals.{After-difference_of-difference}
 
 pub loop-i-init : goal.loop-i-init
-loop-i-init c = differencing-starts (losses_of c.args.losses.now) c.args.cost c.args.out.now c.requires
+loop-i-init c = differencing-starts c.args.terms (losses_of c.args.losses.now) c.args.cost c.args.out.now c.requires
 
 module _ (c : goal.After-difference_of-difference) where
   -- the next bill is that of the next risk
@@ -21,7 +21,7 @@ module _ (c : goal.After-difference_of-difference) where
   small : c.bill_of-bill.result < 2 ^ 31
   small =
       subst (λ (b : ℕ). b < 2 ^ 31) (sym c.bill_of-bill.ensures)
-      (bill_fits (losses_of c.args.losses.now) c.args.cost c.args.out.now c.requires _)
+      (fits c.args.terms _)
 
   difference-is : to_z w64 (of_z w64 c.difference_of-difference.result) ≡ pos c.bill_of-bill.result -ℤ pos c.args.cost
   difference-is = to_z-of_z {w = w64} (record { sfits = c.difference_of-difference.type_inv }) ∙ c.difference_of-difference.ensures
@@ -29,7 +29,7 @@ module _ (c : goal.After-difference_of-difference) where
 pub sum_of-total-requires : goal.sum_of-total-requires
 sum_of-total-requires c = record {
   sfits =
-      sum_fits (losses_of c.args.losses.now) c.args.cost c.args.out.now c.requires c.loop-i.invariant (below c) (is c) (small c) (difference-is c)
+      sum_fits c.args.terms (losses_of c.args.losses.now) c.args.cost c.args.out.now c.requires c.loop-i.invariant (below c) (is c) (small c) (difference-is c)
       (omega (arith, c.ranges.cost));
 }
 
@@ -40,14 +40,14 @@ loop-i-preserved c =
     (λ (z : ℤ). Differencing (bills_of c.args.terms (losses_of c.args.losses.now)) c.args.cost c.args.out.now (c.loop-i.i + 1) z
     (set c.loop-i.out c.loop-i.i (to_z w64 (of_z w64 c.difference_of-difference.result))))
     (sym (to_z-of_z {w = w64} (record { sfits = c.sum_of-total.type_inv }) ∙ c.sum_of-total.ensures))
-    (differencing-more (losses_of c.args.losses.now) c.args.cost c.args.out.now c.requires c.loop-i.invariant (below p) (is p) (small p) (difference-is p))
+    (differencing-more c.args.terms (losses_of c.args.losses.now) c.args.cost c.args.out.now c.requires c.loop-i.invariant (below p) (is p) (small p) (difference-is p))
 
 pub returns-clause-summed : goal.returns-clause-summed
 returns-clause-summed c =
-    differences-summed (losses_of c.args.losses.now) c.args.cost c.args.out.now c.requires c.loop-i.invariant
+    differences-summed c.args.terms (losses_of c.args.losses.now) c.args.cost c.args.out.now c.requires c.loop-i.invariant
     (omega (arith, c.loop-i-test.false, counted c.args.losses.now))
 
 pub returns-clause-put : goal.returns-clause-put
 returns-clause-put c =
-    differences-put (losses_of c.args.losses.now) c.args.cost c.args.out.now c.requires c.loop-i.invariant
+    differences-put c.args.terms (losses_of c.args.losses.now) c.args.cost c.args.out.now c.requires c.loop-i.invariant
     (omega (arith, c.loop-i-test.false, counted c.args.losses.now))

@@ -23,14 +23,14 @@ limited f [] = refl
 limited f (x ∷ xs) = ap (λ (l : List ℕ). f x.limited ∷ l) (limited f xs)
 
 -- clamped by the file's own marks, the limited losses are the ratable ones
-ratables-are : (s : List ℕ) {t : Terms} {g : GroupLosses}
+ratables-are : (s : List ℕ) (t : Terms) {g : GroupLosses}
     (gave : answer_is terms_is (Ok t) ≡ answer (first_no (rating_questions s)) (terms_of (header_of s) (losses_in s)))
     → LossesAre (losses_in s) g
     → map (λ (x : group.Losses). clamp t.minimum t.maximum x.limited) g.of_risks.items ≡ map (ratable (header_of s) (losses_in s)) (losses_in s)
 unfolding ratable
-ratables-are s {t} {g} gave x =
+ratables-are s t {g} gave x =
     limited (clamp t.minimum t.maximum) g.of_risks.items
-    ∙ (λ i. map (λ (r : Losses). clamp (terms-are s gave i).minimum (terms-are s gave i).maximum r.limited) (x.each i))
+    ∙ (λ i. map (λ (r : Losses). clamp (terms-are s t gave i).minimum (terms-are s t gave i).maximum r.limited) (x.each i))
 
 pub returns : goal.returns
 returns c =
@@ -46,8 +46,8 @@ returns c =
                 ap (λ y. y.items) w.ratables-is
                 ∙ w.ratables_of-ratables.ensures
                 ∙ ap (map (λ (y : group.Losses). clamp t.minimum t.maximum y.limited)) w.deref.ensures.0
-                ∙ ratables-are s gave x.losses
-                ∙ sym (ap (λ (v : Verdict). ratables_after v s) (passes s gave))
+                ∙ ratables-are s t gave x.losses
+                ∙ sym (ap (λ (v : Verdict). ratables_after v s) (passes s t gave))
             | in-Err w ↦
                 let failed =
                 refused-failed (first_no (rating_questions s)) (terms_of (header_of s) (losses_in s))

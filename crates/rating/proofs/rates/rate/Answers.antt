@@ -16,20 +16,19 @@ use Rattle.group.specs.declared.Losses as group
 use Rattle.group.specs.declared.GroupLosses.{GroupLosses}
 use Rattle.steps.specs.Terms.{terms_is}
 use Rattle.steps.specs.declared.bill.Terms.{Terms}
-use Rattle.gates.proofs.Given.{passes, terms-within, risks_are, risk-count}
+use Rattle.gates.proofs.Given.{passes, risks_are, risk-count}
 use Rattle.rating.specs.Bills.{bills_of, Billable}
 use Rattle.rating.proofs.Answers.{verdict, refused_says, given-says, demanded}
 use Rattle.rating.proofs.rates.rate.Goals as goal
 
 -- the buffer is as long as asked, and the losses as many as the terms say
-billable : (s : List ℕ) {t : Terms} {g : GroupLosses} {out : List ℕ}
+billable : (s : List ℕ) (t : Terms) {g : GroupLosses} {out : List ℕ}
     → answer_is terms_is (Ok t) ≡ answer (first_no (rating_questions s)) (terms_of (header_of s) (losses_in s))
-    → LossesAre (losses_in s) g → 4 * t.risks ≤ length out → Billable t (losses_is g) out
-billable s {t} {g} {out} gave x room =
-    let count : length (losses_is g) ≡ t.risks = ap length x.each ∙ sym (risks_are s gave) in
+    → LossesAre (losses_in s) g → 4 * t.risks ≤ length out → Billable (losses_is g) out
+billable s t {g} {out} gave x room =
+    let count : length (losses_is g) ≡ t.risks = ap length x.each ∙ sym (risks_are s t gave) in
     record {
-      bounds = terms-within s gave;
-      few = omega (arith, count, (terms-within s gave).few);
+      few = omega (arith, count, t.few);
       enough = omega (arith, count, room);
     }
 
@@ -48,15 +47,15 @@ returns-then-premiums-terms-clause-says c =
     let s = c.args.file.now in
     let old = c.args.premiums.now in
     let gave = sym (ap (answer_is terms_is) c.in_ok-terms.was) ∙ c.open_rating-terms.ensures.terms in
-    let few : length old < 4 * risk_count s = omega (arith, c.if-premiums-terms.true, risk-count s gave) in
-    refused_says s old _ (verdict s old (passes s gave) (lt-leb _ _ few))
+    let few : length old < 4 * risk_count s = omega (arith, c.if-premiums-terms.true, risk-count s c.in_ok-terms.terms gave) in
+    refused_says s old _ (verdict s old (passes s c.in_ok-terms.terms gave) (lt-leb _ _ few))
 
 pub put_bills-billed-requires : goal.put_bills-billed-requires
 put_bills-billed-requires c =
     let s = c.args.file.now in
     let gave = sym (ap (answer_is terms_is) c.in_ok-terms.was) ∙ c.open_rating-terms.ensures.terms in
-    subst (λ (l : List group.Losses). Billable c.in_ok-terms.terms (losses_of l) c.args.premiums.now) (sym c.deref.ensures.0)
-    (billable s gave c.open_rating-terms.ensures.losses c.if-premiums-terms.false)
+    subst (λ (l : List group.Losses). Billable (losses_of l) c.args.premiums.now) (sym c.deref.ensures.0)
+    (billable s c.in_ok-terms.terms gave c.open_rating-terms.ensures.losses c.if-premiums-terms.false)
 
 pub returns-clause-says : goal.returns-clause-says
 returns-clause-says c =
@@ -66,7 +65,7 @@ returns-clause-says c =
     let gave = sym (ap (answer_is terms_is) c.in_ok-terms.was) ∙ x.terms in
     let b = c.put_bills-billed.ensures in
     let bills = ap (λ (l : List group.Losses). bills_of c.in_ok-terms.terms (losses_of l)) c.deref.ensures.0 in
-    given-says s gave x.losses old _ c.if-premiums-terms.false (b.summed ∙ ap sum bills)
+    given-says s c.in_ok-terms.terms gave x.losses old _ c.if-premiums-terms.false (b.summed ∙ ap sum bills)
     (b.put ∙ ap (λ (ps : List ℕ). filled (bytes_of (slots 32 ps)) old) bills)
 
 pub returns-clause-demand3 : goal.returns-clause-demand3
@@ -77,5 +76,5 @@ returns-clause-demand3 c =
     let gave = sym (ap (answer_is terms_is) c.in_ok-terms.was) ∙ x.terms in
     let b = c.put_bills-billed.ensures in
     let bills = ap (λ (l : List group.Losses). bills_of c.in_ok-terms.terms (losses_of l)) c.deref.ensures.0 in
-    demanded s gave x.losses old _ c.if-premiums-terms.false (b.summed ∙ ap sum bills)
+    demanded s c.in_ok-terms.terms gave x.losses old _ c.if-premiums-terms.false (b.summed ∙ ap sum bills)
     (b.put ∙ ap (λ (ps : List ℕ). filled (bytes_of (slots 32 ps)) old) bills)

@@ -1,5 +1,5 @@
 -- Question 12 by M's sign, and the terms where it passes, since the numbers that the code has are the group's.
-use Rattle.std.proofs.Common.{◌≡◌, sym, ap, ◌∙◌, true, false, List, []}
+use Rattle.std.proofs.Common.{◌≡◌, sym, ap, ◌∙◌, subst, pos, true, false, List, []}
 use Rattle.std.specs.Int.Signed.{non_neg}
 use Rattle.plan.specs.Header as plan
 use Rattle.plan.specs.Losses.{Losses}
@@ -7,10 +7,14 @@ use Rattle.plan.specs.Basic.{basic_premium}
 use Rattle.plan.specs.Premium.{Terms, terms_of}
 use Rattle.plan.specs.Questions.{balance_questions, first_no}
 use Rattle.plan.specs.Calls.{Answer, refused, given, answer}
+use Rattle.plan.specs.Bounds.{TermsBounds}
+use Rattle.plan.proofs.GroupSizes.{terms-bounds}
 use Rattle.plan.proofs.Questions.{goes_on, stops, answered}
+use Rattle.group.specs.Values.{header_is, losses_is}
 use Rattle.steps.proofs.Sums.{of-slice}
 use Rattle.steps.proofs.Group.{basic-bounds, basic_are, terms-are}
 use Rattle.steps.proofs.balance.balance.Goals as goal
+use Rattle.steps.proofs.balance.balance.Goals.{In-Some}
 
 -- ---- what 12 comes to
 
@@ -40,12 +44,31 @@ returns-in_default c =
     (of-slice _ c.below_in_all-below.ensures c.deref-2.ensures.0) in
     twelve _ _ (ap non_neg (sym m) ∙ c.in_default.ensures)
 
+-- M, as the code has it
+m-is : (c : In-Some) → pos c.in-Some.basic ≡ basic_premium (header_is c.args.h) (losses_is c.args.losses.now)
+m-is c =
+    c.in-Some.ensures
+    ∙ basic_are c.requires c.risks-risks.ensures c.marks_of-marks.ensures
+    (of-slice _ c.above_in_all-above.ensures c.deref.ensures.0)
+    (of-slice _ c.below_in_all-below.ensures c.deref-2.ensures.0)
+
+pub invariant_of-result : goal.invariant_of-result
+invariant_of-result c =
+    let m = m-is (goal.at.invariant_of-result c).In-Some in
+    let b =
+    subst TermsBounds (sym (terms-are c.requires c.risks-risks.ensures c.marks_of-marks.ensures m c.excess_of-excess.ensures))
+    (terms-bounds (header_is c.args.h) (losses_is c.args.losses.now) c.requires.bounds (record { not_negative = ap non_neg (sym m) })) in
+    record {
+      some = b.some;
+      few = b.few;
+      conversion_most = b.conversion;
+      tax_most = b.tax;
+      shared = b.shared;
+      maximum_most = b.maximum;
+    }
+
 pub returns : goal.returns
 returns c =
-    let m =
-    basic_are c.requires c.risks-risks.ensures c.marks_of-marks.ensures
-    (of-slice _ c.above_in_all-above.ensures c.deref.ensures.0)
-    (of-slice _ c.below_in_all-below.ensures c.deref-2.ensures.0) in
-    let is = c.in-Some.ensures ∙ m in
-    ap given (terms-are c.requires c.risks-risks.ensures c.marks_of-marks.ensures is c.excess_of-excess.ensures)
-    ∙ terms _ _ (ap non_neg (sym is))
+    let m = m-is (goal.at.returns c).In-Some in
+    ap given (terms-are c.requires c.risks-risks.ensures c.marks_of-marks.ensures m c.excess_of-excess.ensures)
+    ∙ terms _ _ (ap non_neg (sym m))
