@@ -1,11 +1,11 @@
 -- What the gate of questions 1 to 12 gives, to a call that goes on from it: where it gives terms, the questions pass, the terms are
 -- the file's own, and the bills by them are step 6's premiums. Assumes nothing.
-use Rattle.std.proofs.Common.{◌≡◌, sym, ap, ap₂, ◌∙◌, List, map, ℕ, ◌≤◌, length, arith, Ok}
+use Rattle.std.proofs.Common.{◌≡◌, sym, ap, ap₂, ◌∙◌, List, map, ℕ, ◌≤◌, length, get_or, arith, Ok}
 use Rattle.plan.specs.Sizes.{most_risks}
 use Rattle.plan.specs.Header.{header_of, risk_count}
 use Rattle.plan.specs.Losses.{Losses, losses_in}
 use Rattle.plan.specs.Premium as plan
-use Rattle.plan.specs.Premium.{terms_of, bill_with, billed_premiums}
+use Rattle.plan.specs.Premium.{terms_of, bill_with, billed_premium, billed_premiums}
 use Rattle.plan.specs.Questions.{passed, first_no, rating_questions}
 use Rattle.plan.specs.Calls.{answer}
 use Rattle.plan.proofs.Questions.{given-passed}
@@ -15,6 +15,10 @@ use Rattle.group.specs.Values.{losses_is, LossesAre}
 use Rattle.group.specs.declared.GroupLosses.{GroupLosses}
 use Rattle.steps.specs.Terms.{terms_is}
 use Rattle.steps.specs.declared.bill.Terms.{Terms}
+
+-- what stands past the last risk
+abbrev pub no_losses : Losses
+no_losses = record { total = 0; limited = 0 }
 
 module _ (s : List ℕ) (t : Terms)
     (gave : answer_is terms_is (Ok t) ≡ answer (first_no (rating_questions s)) (terms_of (header_of s) (losses_in s))) where
@@ -38,3 +42,9 @@ module _ (s : List ℕ) (t : Terms)
   pub bills-are : {g : GroupLosses} → LossesAre (losses_in s) g
       → map (λ (r : Losses). bill_with (terms_is t) r.limited) (losses_is g) ≡ billed_premiums (header_of s) (losses_in s)
   bills-are x = ap₂ (λ (y : plan.Terms) (l : List Losses). map (λ (r : Losses). bill_with y r.limited) l) terms-are x.each
+
+  -- and one by one: the bill by the A of risk i is its premium
+  pub bill_is : {g : GroupLosses} → LossesAre (losses_in s) g → (i : ℕ)
+      → bill_with (terms_is t) (get_or (losses_is g) i no_losses).limited
+      ≡ billed_premium (header_of s) (losses_in s) (get_or (losses_in s) i no_losses)
+  bill_is x i = ap₂ (λ (y : plan.Terms) (l : List Losses). bill_with y (get_or l i no_losses).limited) terms-are x.each

@@ -1,2 +1,3 @@
--- None of the exported calls answers 11.
+-- What the exported calls' answers come to, law by law, and that none of these calls answers 11.
+pub mod Exports
 pub mod Eleven
