@@ -6,8 +6,9 @@ use native.Mathlib.Omega.{arith}
 use Rattle.plan.specs.Field.{field}
 use Rattle.plan.specs.Header.{edition_of}
 use Rattle.plan.specs.Claim.{claim_width, dollars_width}
-use Rattle.plan.proofs.Claims.{width_is, past-claim, joined-of-both, dollars-of-both}
+use Rattle.plan.proofs.Claims.{past-claim, joined-of-both, dollars-of-both}
 use Rattle.claims.specs.Edition.{edition_number}
+use Rattle.claims.proofs.Taking.{width-like}
 use Rattle.claims.proofs.claim.claim_at.Goals as goal
 
 pub returns : goal.returns
@@ -16,7 +17,7 @@ returns c =
     let at = c.args.place.at in
     let t = c.fields_at-taken in
     let width : claim_width (edition_number c.args.edition) ≡ claim_width (edition_of s) =
-    omega (arith, width_is (edition_number c.args.edition), c.requires.1, width_is (edition_of s)) in
+    width-like s c.args.edition c.requires.1 in
     let both : t.result.value ≡ field s at (claim_width (edition_of s)) = t.ensures.is ∙ ap (field s at) width in
     record {
       bit = ap (λ (x : ℕ). x / 2 ^ dollars_width) both ∙ joined-of-both s at;
