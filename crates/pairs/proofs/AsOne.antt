@@ -94,13 +94,6 @@ module _ (edition : ℕ) where
         → Wrote s at (slots_of_claims edition (claims_of js ds)) t q
     wrote-numbers x = wrote-as-one (claims_of js ds) p (rw width at x)
 
--- the fields are those of any edition whose claims have as many bits before their dollars
-pub slots-by-width : (e f : ℕ) → joined_width e ≡ joined_width f → (cs : List Claim) → slots_of_claims e cs ≡ slots_of_claims f cs
-unfolding slots_of_claim
-slots-by-width e f z [] = refl
-slots-by-width e f z (claim j d ∷ cs) =
-    ap₂ (λ (w : ℕ) (fs : List Slot). slot w j ∷ slot dollars_width d ∷ fs) z (slots-by-width e f z cs)
-
 -- each claim's bit and dollars fit their fields
 pub both-fit : (edition : ℕ) (js ds : List ℕ) (i : ℕ) → length js ≡ length ds → i < length ds
     → Fitting (slots_of_claims edition (claims_of js ds))
