@@ -28,7 +28,7 @@ fn put_first(out: &mut [u8], edition: Edition, h: Header) -> BitPlace
     requires { Space out.old 0 (first_slots (edition_number edition) (header_is h)) }
     ensures { Wrote out.old 0 (first_slots (edition_number edition) (header_is h)) out.new result.at }
 {
-    let limit = BitPlace { at: 0 }.put(out, EDITION_WIDTH, edition.into());
+    let limit = BitPlace { at: 0 }.put(out, EDITION_WIDTH, u32::from(edition));
     let premium = limit.put(out, LOSS_LIMIT_WIDTH, h.loss_limit);
     let expense = premium.put(out, STANDARD_PREMIUM_WIDTH, h.standard_premium);
     let conversion = expense.put(out, EXPENSE_WIDTH, h.expense);
