@@ -40,18 +40,18 @@ pub fn write(
     ensures { WriteSays (given_group edition header counts.now claims.now joined.now)
         out.old result out.new }
 {
-    let known = Edition::try_from(edition)?;
+    let edition = Edition::try_from(edition)?;
     header_verdict(header, counts.len())?;
-    if !values_fit(known, header, counts, claims, joined) {
+    if !values_fit(edition, header, counts, claims, joined) {
         return Err(Refusal::Misfit);
     }
     if !risks_open(counts, joined) {
         return Err(Refusal::FirstJoined);
     }
-    let size = file_length(known, counts.len(), claims.len());
+    let size = file_length(edition, counts.len(), claims.len());
     if out.len() < size {
         return Err(Refusal::Room);
     }
-    put_file(out, known, header, counts, claims, joined, size);
+    put_file(out, edition, header, counts, claims, joined, size);
     Ok(size)
 }
