@@ -1,15 +1,13 @@
 -- Whether a risk's first claim opens an accident. Assumes nothing.
-use mathlib.Core.Path.{◌≡◌, refl, ap, ap₂, ◌∙◌}
-use mathlib.Core.Bool.{Bool, true, ◌||◌}
+use mathlib.Core.Path.{◌≡◌, ap, ap₂, ◌∙◌}
+use mathlib.Core.Bool.{Bool, ◌||◌}
 use mathlib.Core.List.{List}
 use Prim.Native.Nat.{ℕ, zero, suc}
 use native.Mathlib.Omega.{arith}
-use borrow.Author.Tests.{eq-eqb, ne_eqb}
+use borrow.Author.Tests.{ne_eqb}
 use lib.Dec.{eqb}
-use Rattle.plan.specs.Header.{edition_of}
-use Rattle.plan.specs.Claim.{joined, joined_width, claim_at, claims_from}
+use Rattle.plan.specs.Claim.{joined, claim_at, claims_from}
 use Rattle.plan.specs.Accidents.{opens}
-use Rattle.plan.proofs.Claims.{not-joined}
 
 -- where there is none, or the first one's bit is 0
 pub joined-opens : (s : List ℕ) (at : ℕ) {k b : ℕ} (n : ℕ) → k ≡ n → b ≡ joined (claim_at s at)

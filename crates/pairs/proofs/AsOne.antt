@@ -1,11 +1,11 @@
 -- A claim's two fields are as well one field, of both widths, whose number is the bit with the dollars' bits after it. So claims
 -- may be put as one field each; where the bit's field has no bits these are the dollars alone. Assumes nothing.
-use mathlib.Core.Path.{◌≡◌, refl, ap, ap₂}
+use mathlib.Core.Path.{◌≡◌, refl, ap}
 use mathlib.Core.List.{List, [], ◌∷◌, map}
 use Prim.Native.Nat.{ℕ, zero, suc, ◌+◌, ◌*◌, ◌^◌, ◌<◌}
 use native.Mathlib.Omega.{arith}
 use lib.ListN.{length, get_or}
-use Rattle.plan.specs.Field.{Slot, slot, slots, total_width, Laid, Fitting}
+use Rattle.plan.specs.Field.{Slot, slots, total_width, Laid, Fitting}
 use Rattle.plan.specs.Claim.{Claim, claim, joined_width, dollars_width, slots_of_claim, slots_of_claims, claims_of}
 use Rattle.words.proofs.Words.{joined-lt}
 use Rattle.bits.specs.Runs.{Space, Wrote}

@@ -1,5 +1,5 @@
 -- The count, and the bit behind it, are on the front of one word.
-use Rattle.std.proofs.Common.{arith, ◌+◌, ◌%◌, ◌≡◌, ◌≤◌, ◌-◌, ◌/◌, ◌^◌, ℕ, sym, ap, ap₂, ◌∙◌, Bool, cond, eqb, lit≤, eq-eqb, ne_eqb, List}
+use Rattle.std.proofs.Common.{arith, ◌+◌, ◌%◌, ◌≡◌, ◌≤◌, ◌-◌, ◌/◌, ◌^◌, ℕ, sym, ap, ap₂, ◌∙◌, lit≤, List}
 use Rattle.plan.specs.Field.{field}
 use Rattle.plan.specs.Header.{edition_of}
 use Rattle.plan.specs.Claim.{joined, joined_width, claim_at}

@@ -1,6 +1,6 @@
 -- At each return the answers so far are those of Write's questions, in their order, and nothing is stored
 -- before the last of them.
-use Rattle.std.proofs.Common.{◌≡◌, refl, sym, ap, ◌∙◌, subst, arith, ℕ, true, Result, Ok}
+use Rattle.std.proofs.Common.{◌≡◌, refl, sym, ap, ◌∙◌, subst, ℕ, true, Result, Ok}
 use Rattle.std.proofs.lemmas.Result.{err_from_is_err_and}
 use Rattle.plan.specs.Questions.{known_edition}
 use Rattle.group.specs.Refusals.{verdict_is}
@@ -34,19 +34,19 @@ returns-in_err-header_verdict c =
     let n = its-number c.args.edition c.try_from.ensures c.in_ok-edition.was in
     let p = err_from_is_err_and c.from_residual-in_err-header_verdict.result c.from_residual-in_err-header_verdict.ensures.1 in
     rw (p.1, p.2, sym n) (refused-header _ _ (known c.in_ok-edition.edition) _
-        (sym (ap verdict_is c.in_err-header_verdict.was) ∙ c.header_verdict.ensures))
+    (sym (ap verdict_is c.in_err-header_verdict.was) ∙ c.header_verdict.ensures))
 
 pub returns-then-not-values_fit : goal.returns-then-not-values_fit
 returns-then-not-values_fit c =
     let n = its-number c.args.edition c.try_from.ensures c.in_ok-edition.was in
     rw (sym n) (refused-15 _ _ (known c.in_ok-edition.edition) (sym (ap verdict_is c.in_ok-header_verdict.was) ∙ c.header_verdict.ensures)
-        c.if-not-values_fit.ensures)
+    c.if-not-values_fit.ensures)
 
 pub returns-then-not-risks_open : goal.returns-then-not-risks_open
 returns-then-not-risks_open c =
     let n = its-number c.args.edition c.try_from.ensures c.in_ok-edition.was in
     rw (sym n) (refused-19 _ _ (known c.in_ok-edition.edition) (sym (ap verdict_is c.in_ok-header_verdict.was) ∙ c.header_verdict.ensures)
-        c.if-not-values_fit.ensures c.if-not-risks_open.ensures)
+    c.if-not-values_fit.ensures c.if-not-risks_open.ensures)
 
 pub file_length-size-requires : goal.file_length-size-requires
 file_length-size-requires c =
@@ -59,7 +59,7 @@ pub returns-then-out-size : goal.returns-then-out-size
 returns-then-out-size c =
     let n = its-number c.args.edition c.try_from.ensures c.in_ok-edition.was in
     rw (sym n) (refused-13 _ _ (known c.in_ok-edition.edition) (sym (ap verdict_is c.in_ok-header_verdict.was) ∙ c.header_verdict.ensures)
-        c.if-not-values_fit.ensures c.if-not-risks_open.ensures c.file_length-size.ensures c.if-out-size.true)
+    c.if-not-values_fit.ensures c.if-not-risks_open.ensures c.file_length-size.ensures c.if-out-size.true)
 
 pub put_file-requires : goal.put_file-requires
 put_file-requires c =
@@ -70,4 +70,4 @@ pub returns : goal.returns
 returns c =
     let n = its-number c.args.edition c.try_from.ensures c.in_ok-edition.was in
     rw (sym n) (written-all _ _ (known c.in_ok-edition.edition) (sym (ap verdict_is c.in_ok-header_verdict.was) ∙ c.header_verdict.ensures)
-        c.if-not-values_fit.ensures c.if-not-risks_open.ensures c.file_length-size.ensures c.if-out-size.false c.put_file.ensures)
+    c.if-not-values_fit.ensures c.if-not-risks_open.ensures c.file_length-size.ensures c.if-out-size.false c.put_file.ensures)
