@@ -10,7 +10,13 @@ use Rattle.plan.specs.Claim.{Claim, claim, joined, dollars, joined_width, dollar
 use Rattle.plan.proofs.Claims.{width_is, joined_at, dollars-at, past-claim, claims-split}
 use Rattle.bits.specs.Take.{Ahead}
 use Rattle.bits.proofs.Fronts.{front-part}
+use Rattle.claims.specs.Edition.{edition_number, LieAs}
+use Rattle.claims.specs.declared.edition.Edition.{Edition}
 use Rattle.claims.specs.Sums.{claim_in, first_low, second_low}
+
+-- the claims of a file that lie as those of an edition have their width
+pub width-like : (s : List ℕ) (e : Edition) → LieAs s e → claim_width (edition_number e) ≡ claim_width (edition_of s)
+width-like s e same = omega (arith, width_is (edition_number e), same, width_is (edition_of s))
 
 module _ (s : List ℕ) {b : ℕ} (e : joined_width (edition_of s) ≡ b) where
   -- a claim is its bits and its dollars

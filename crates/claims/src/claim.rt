@@ -3,18 +3,14 @@
 ghost use Rattle.std.specs.Prelude.{◌≡◌, ◌+◌, ◌*◌, ◌/◌, ◌≤◌, min};
 ghost use Rattle.plan.specs.Sizes.{largest_claim};
 ghost use Rattle.plan.specs.Field.{fits};
-ghost use Rattle.plan.specs.Header.{edition_of};
 ghost use Rattle.plan.specs.Claim.{joined_width, dollars_width, claim_width};
 ghost use Rattle.bits.specs.Take.{Took};
 ghost use Rattle.claims.specs.Claim.{ClaimReach, ClaimTaken, RunReach, front_dollars};
+ghost use Rattle.claims.specs.Edition.{edition_number, LieAs};
 
+use crate::edition::Edition;
 use bits::{BitPlace, Taken};
 use words::{extract, highest};
-
-// The edition whose claims are their dollars alone, and the one whose claims have a bit before them.
-pub const SINGLE_EDITION: u32 = 1;
-
-pub const JOINING_EDITION: u32 = 2;
 
 // Bits of a claim's dollars, and the most of a claim.
 pub const DOLLARS_WIDTH: u32 = 20;
@@ -33,23 +29,27 @@ pub struct TakenClaim {
 }
 
 // Bits of the field before a claim's dollars: one, or none.
-pub fn joined_width(edition: u32) -> u32
-    ensures { result ≡ joined_width edition }
+pub fn joined_width(edition: Edition) -> u32
+    ensures { result ≡ joined_width (edition_number edition) }
 {
-    if edition == JOINING_EDITION { 1 } else { 0 }
+    match edition {
+        Edition::First => 0,
+        Edition::Second => 1,
+    }
 }
 
 // Bits of a claim: both its fields.
-pub fn claim_width(edition: u32) -> u32
-    ensures { result ≡ claim_width edition }
+#[tactic(auto, unfolding(plan::specs::Claim::claim_width))]
+pub fn claim_width(edition: Edition) -> u32
+    ensures { result ≡ claim_width (edition_number edition) }
 {
     joined_width(edition) + DOLLARS_WIDTH
 }
 
 // The place after `count` claims of an edition from a place on: it is known by their number alone.
-pub fn past_claims(place: BitPlace, count: u32, edition: u32) -> BitPlace
+pub fn past_claims(place: BitPlace, count: u32, edition: Edition) -> BitPlace
     requires { RunReach place.at count }
-    ensures { result.at ≡ place.at + claim_width edition * count }
+    ensures { result.at ≡ place.at + claim_width (edition_number edition) * count }
 {
     let at = place.at + claim_width(edition) as usize * count as usize;
     BitPlace { at }
@@ -66,19 +66,20 @@ pub fn reach_of(place: BitPlace, count: u32) -> usize
 
 // A claim's fields taken as one; their word ends at byte `reach` or before. Each width is a number of its own here, so that a loop over
 // claims can compile to one for each edition: by one call with `claim_width(edition)` Read takes 321,808 instructions in place of 241,224.
-fn fields_at(file: &[u8], place: BitPlace, edition: u32, reach: usize) -> Taken<u32>
+#[tactic(auto, unfolding(plan::specs::Claim::claim_width))]
+fn fields_at(file: &[u8], place: BitPlace, edition: Edition, reach: usize) -> Taken<u32>
     requires { ClaimReach place.at 0 reach }
-    ensures { Took file.now place.at (claim_width edition) result.value result.next.at }
+    ensures { Took file.now place.at (claim_width (edition_number edition)) result.value result.next.at }
 {
-    if edition == JOINING_EDITION {
-        return place.take_within(file, MOST_CLAIM_WIDTH, reach);
+    match edition {
+        Edition::First => place.take_within(file, DOLLARS_WIDTH, reach),
+        Edition::Second => place.take_within(file, MOST_CLAIM_WIDTH, reach),
     }
-    place.take_within(file, DOLLARS_WIDTH, reach)
 }
 
 // The claim at a place, and the place after it; its word ends at byte `reach` or before.
-pub fn claim_at(file: &[u8], place: BitPlace, edition: u32, reach: usize) -> TakenClaim
-    requires { ClaimReach place.at 0 reach × (edition ≡ edition_of file.now) }
+pub fn claim_at(file: &[u8], place: BitPlace, edition: Edition, reach: usize) -> TakenClaim
+    requires { ClaimReach place.at 0 reach × LieAs file.now edition }
     ensures { ClaimTaken file.now place.at result }
 {
     let taken = fields_at(file, place, edition, reach);

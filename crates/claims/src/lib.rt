@@ -3,5 +3,6 @@
 #![tactic(auto)]
 
 pub mod claim;
+pub mod edition;
 pub mod run;
 pub mod sums;

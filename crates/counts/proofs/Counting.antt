@@ -15,6 +15,9 @@ use Rattle.plan.proofs.Sums.{sum-append}
 use Rattle.plan.proofs.Claims.{past-claims}
 use Rattle.plan.proofs.Risks.{counts-le, counts-more, risks-more, past-risks-le, past-risks-more}
 use Rattle.plan.proofs.Accidents.{all-open-more}
+use Rattle.claims.specs.Edition.{edition_number, LieAs}
+use Rattle.claims.specs.declared.edition.Edition.{Edition}
+use Rattle.claims.proofs.Taking.{width-like}
 use Rattle.counts.specs.Counts.{HeadIs}
 use Rattle.counts.specs.declared.RiskHead.{RiskHead}
 
@@ -46,12 +49,12 @@ module _ {s : List ℕ} {k p claims : ℕ} {opened : Bool} (w : Counting s k p c
   counting-most = omega (arith, w.claims_are, counts-le s header_bits k)
 
   -- one count more, as the code has it: taken at p, the first of as many claims looked at, and the place after them
-  pub counting_more : {t : RiskHead} {q edition : ℕ} → HeadIs s p t → edition ≡ edition_of s
-      → q ≡ t.next.at + claim_width edition * t.count → Counting s (k + 1) q (claims + t.count) (opened && t.opened)
-  counting_more {t} {q} {edition} x same e =
+  pub counting_more : (edition : Edition) {t : RiskHead} {q : ℕ} → HeadIs s p t → LieAs s edition
+      → q ≡ t.next.at + claim_width (edition_number edition) * t.count → Counting s (k + 1) q (claims + t.count) (opened && t.opened)
+  counting_more edition {t} {q} x same e =
       let end : q ≡ past_risk s p =
       e
-      ∙ ap (λ (d : ℕ). t.next.at + claim_width d * t.count) same
+      ∙ ap (λ (w : ℕ). t.next.at + w * t.count) (width-like s edition same)
       ∙ ap₂ (λ (a n : ℕ). a + claim_width (edition_of s) * n) x.next x.is
       ∙ sym (past-claims s (first_claim p) (count_at s p)) in
       record {

@@ -4,22 +4,24 @@
 #![tactic(auto)]
 
 ghost use Rattle.std.specs.Prelude.{◌≡◌, ◌+◌, ◌≤◌};
-ghost use Rattle.plan.specs.Header.{edition_of, header_bits};
+ghost use Rattle.plan.specs.Header.{header_bits};
 ghost use Rattle.plan.specs.Risk.{count_width};
 ghost use Rattle.plan.specs.Sizes.{most_risks, most_file_bits};
+ghost use Rattle.claims.specs.Edition.{LieAs};
 ghost use Rattle.counts.specs.Counts.{CountIs, HeadIs, CountedIs};
 
 use bits::{BitPlace, Taken};
-use claims::claim::{JOINING_EDITION, past_claims};
+use claims::claim::{joined_width, past_claims};
+use claims::edition::Edition;
 use words::{extract, highest};
 
 // Bits of a risk's number of claims.
 pub const COUNT_WIDTH: u32 = 6;
 
-// Bits of a count and of the bit behind it, and those of a word below both.
+// Bits of a count and of the bit behind it, and those of a word below a count.
 const HEAD_WIDTH: u32 = 7;
 
-const BIT_LOW: u32 = 57;
+const BELOW_COUNT: u32 = 58;
 
 // What a risk begins with: the number of its claims, whether its first claim opens an accident, and the place of that claim.
 #[derive(Clone, Copy)]
@@ -47,10 +49,10 @@ pub fn count_at(file: &[u8], place: BitPlace) -> Taken<u32>
     place.take(file, COUNT_WIDTH)
 }
 
-// The same, and whether the risk's first claim opens an accident: there is none, or it has no bit, or its bit, which lies behind the
-// count in the same word, is 0.
-pub fn head_at(file: &[u8], place: BitPlace, edition: u32) -> RiskHead
-    requires { (place.at + count_width ≤ most_file_bits) × (edition ≡ edition_of file.now) }
+// The same, and whether the risk's first claim opens an accident: there is none, or its bit is 0. That bit lies behind the count in
+// the same word, and is one of no width in edition 1.
+pub fn head_at(file: &[u8], place: BitPlace, edition: Edition) -> RiskHead
+    requires { (place.at + count_width ≤ most_file_bits) × LieAs file.now edition }
     ensures { HeadIs file.now place.at result }
 {
     let reach = place.at / 8 + 8;
@@ -58,14 +60,8 @@ pub fn head_at(file: &[u8], place: BitPlace, edition: u32) -> RiskHead
     let count = highest(front.value, COUNT_WIDTH) as u32;
     let at = place.at + COUNT_WIDTH as usize;
     let next = BitPlace { at };
-    if edition != JOINING_EDITION {
-        return RiskHead {
-            count,
-            opened: true,
-            next,
-        };
-    }
-    let bit = extract(front.value, BIT_LOW, 1);
+    let width = joined_width(edition);
+    let bit = extract(front.value, BELOW_COUNT - width, width);
     RiskHead {
         count,
         opened: (count == 0) | (bit == 0),
@@ -75,8 +71,8 @@ pub fn head_at(file: &[u8], place: BitPlace, edition: u32) -> RiskHead
 
 // Goes over the counts of so many risks from a place on, which is the header's end, and looks at no claim but for the bit of each
 // risk's first.
-pub fn count_claims(file: &[u8], place: BitPlace, risks: u32, edition: u32) -> Counted
-    requires { (risks ≤ most_risks) × (place.at ≡ header_bits) × (edition ≡ edition_of file.now) }
+pub fn count_claims(file: &[u8], place: BitPlace, risks: u32, edition: Edition) -> Counted
+    requires { (risks ≤ most_risks) × (place.at ≡ header_bits) × LieAs file.now edition }
     ensures { CountedIs file.now risks result }
 {
     let mut claims: u32 = 0;

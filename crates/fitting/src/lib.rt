@@ -10,11 +10,13 @@ ghost use Rattle.plan.specs.Field.{fits, all_fit};
 ghost use Rattle.plan.specs.Claim.{joined_width, dollars_width};
 ghost use Rattle.plan.specs.Risk.{count_width};
 ghost use Rattle.plan.specs.Questions.{ask, header_fits, question15};
+ghost use Rattle.claims.specs.Edition.{edition_number};
 ghost use Rattle.group.specs.Values.{header_is};
 ghost use Rattle.putting.specs.Putting.{given_group};
 ghost use Rattle.fitting.specs.Fitting.{OpensSays, OpenSays};
 
 use claims::claim::{DOLLARS_WIDTH, joined_width};
+use claims::edition::Edition;
 use group::{Header, MOST_CLAIMS, MOST_RISKS};
 use header::{
     CONVERSION_WIDTH, EXPENSE_WIDTH, LOSS_LIMIT_WIDTH, MARK_KIND_WIDTH, MARK_WIDTH,
@@ -61,8 +63,8 @@ fn claims_fit(claims: &[u32]) -> bool
 
 // Whether the bits of the claims fit their width in an edition: where that is no bits, each is 0. The greatest is looked for in a
 // loop of bytes alone, which can compile to one over many at a time.
-fn joined_fit(edition: u32, joined: &[u8]) -> bool
-    ensures { result ≡ all_fit (joined_width edition) joined.now }
+fn joined_fit(edition: Edition, joined: &[u8]) -> bool
+    ensures { result ≡ all_fit (joined_width (edition_number edition)) joined.now }
 {
     let most = joined.iter().fold(0, |most: u8, &bit| most.max(bit));
     value_fits(joined_width(edition), most as u32)
@@ -71,14 +73,14 @@ fn joined_fit(edition: u32, joined: &[u8]) -> bool
 // Question 15. Claims are looked at only where there are as many as the counts add to, and bits where there are as many as
 // claims.
 pub fn values_fit(
-    edition: u32,
+    edition: Edition,
     header: Header,
     counts: &[u8],
     claims: &[u32],
     joined: &[u8],
 ) -> bool
     ensures { ask 15 result
-        ≡ question15 (given_group edition header counts.now claims.now joined.now) }
+        ≡ question15 (given_group (edition_number edition) header counts.now claims.now joined.now) }
 {
     if counts.len() > MOST_RISKS {
         return false;

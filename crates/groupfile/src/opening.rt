@@ -9,16 +9,17 @@ ghost use Rattle.header.specs.Header.{FileHeaderIs};
 ghost use Rattle.groupfile.specs.Opening.{OpenedIs, OutlineIs};
 
 use bits::BitPlace;
+use claims::edition::Edition;
 use counts::count_claims;
 use group::{GroupLosses, Header, Refusal};
-use header::{FileHeader, header_of, header_verdict, known_edition};
+use header::{FileHeader, header_of, header_verdict};
 use walking::walk;
 
 // Bytes of the header.
 pub const HEADER_BYTES: usize = 16;
 
-// The risks as they lie in a file, for a call that goes over their claims: the edition, the place of the first, and the number of all
-// claims. A file opened with its losses has them too, for a call that goes over the claims again.
+// The risks as they lie in a file, for a call that goes over their claims: the number of the edition, the place of the first, and the
+// number of all claims. A file opened with its losses has them too, for a call that goes over the claims again.
 #[derive(Clone, Copy)]
 pub struct RiskRun {
     pub edition: u32,
@@ -72,9 +73,7 @@ fn file_verdict(file: &[u8], header: FileHeader, end: BitPlace, opened: bool) ->
     if file.len() < HEADER_BYTES {
         return Err(Refusal::NoHeader);
     }
-    if !known_edition(header.edition) {
-        return Err(Refusal::Edition);
-    }
+    Edition::try_from(header.edition)?;
     if header.spare != 0 {
         return Err(Refusal::Edition);
     }
@@ -89,13 +88,13 @@ pub fn open(file: &[u8]) -> Opened
     let header = header_of(file);
     let values = header.values;
     let first = header.next;
-    let edition = header.edition;
+    let edition = Edition::or_first(header.edition);
     let walked = walk(file, first, header.risks, edition, values.loss_limit);
     Opened {
         verdict: file_verdict(file, header, walked.end, walked.opened),
         header: values,
         run: RiskRun {
-            edition,
+            edition: header.edition,
             first,
             claims: walked.claims,
         },
@@ -110,7 +109,7 @@ pub fn open_outline(file: &[u8]) -> Outline
 {
     let header = header_of(file);
     let first = header.next;
-    let edition = header.edition;
+    let edition = Edition::or_first(header.edition);
     let risks = header.risks;
     let counted = count_claims(file, first, risks, edition);
     Outline {
@@ -118,7 +117,7 @@ pub fn open_outline(file: &[u8]) -> Outline
         header: header.values,
         risks,
         run: RiskRun {
-            edition,
+            edition: header.edition,
             first,
             claims: counted.claims,
         },

@@ -1,15 +1,14 @@
-// The header of a group file: its eleven fields, taken one after another; whether an edition is known; and
-// questions 3 to 7 of header values, with 18 after 6.
+// The header of a group file: its eleven fields, taken one after another; and questions 3 to 7 of header values, with
+// 18 after 6.
 #![tactic(auto)]
 
 ghost use Rattle.std.specs.Prelude.{◌≡◌};
-ghost use Rattle.plan.specs.Questions.{first_no, known_edition, header_questions};
+ghost use Rattle.plan.specs.Questions.{first_no, header_questions};
 ghost use Rattle.group.specs.Refusals.{verdict_is};
 ghost use Rattle.group.specs.Values.{header_is};
 ghost use Rattle.header.specs.Header.{FileHeaderIs};
 
 use bits::BitPlace;
-use claims::claim::{JOINING_EDITION, SINGLE_EDITION};
 use group::{Header, MOST_MARK, Refusal};
 
 // Bits of each field.
@@ -74,13 +73,6 @@ pub fn header_of(file: &[u8]) -> FileHeader
         spare: spare.value,
         next: spare.next,
     }
-}
-
-// Whether an edition is one that is read and written: 1 or 2.
-pub fn known_edition(edition: u32) -> bool
-    ensures { result ≡ known_edition edition }
-{
-    edition == SINGLE_EDITION || edition == JOINING_EDITION
 }
 
 // Questions 3 to 6, 18 and 7 of header values and the number of risks.

@@ -1,11 +1,11 @@
 -- A claim's two fields are as well one field, of both widths, whose number is the bit with the dollars' bits after it. So claims
 -- may be put as one field each; where the bit's field has no bits these are the dollars alone. Assumes nothing.
-use mathlib.Core.Path.{◌≡◌, refl, ap, ap₂}
+use mathlib.Core.Path.{◌≡◌, refl, ap}
 use mathlib.Core.List.{List, [], ◌∷◌, map}
 use Prim.Native.Nat.{ℕ, zero, suc, ◌+◌, ◌*◌, ◌^◌, ◌<◌}
 use native.Mathlib.Omega.{arith}
 use lib.ListN.{length, get_or}
-use Rattle.plan.specs.Field.{Slot, slot, slots, total_width, Laid, Fitting}
+use Rattle.plan.specs.Field.{Slot, slots, total_width, Laid, Fitting}
 use Rattle.plan.specs.Claim.{Claim, claim, joined_width, dollars_width, slots_of_claim, slots_of_claims, claims_of}
 use Rattle.words.proofs.Words.{joined-lt}
 use Rattle.bits.specs.Runs.{Space, Wrote}
@@ -93,13 +93,6 @@ module _ (edition : ℕ) where
     pub wrote-numbers : {t : List ℕ} {q : ℕ} → Wrote s at (slots w (values js ds)) t q
         → Wrote s at (slots_of_claims edition (claims_of js ds)) t q
     wrote-numbers x = wrote-as-one (claims_of js ds) p (rw width at x)
-
--- the fields are those of any edition whose claims have as many bits before their dollars
-pub slots-by-width : (e f : ℕ) → joined_width e ≡ joined_width f → (cs : List Claim) → slots_of_claims e cs ≡ slots_of_claims f cs
-unfolding slots_of_claim
-slots-by-width e f z [] = refl
-slots-by-width e f z (claim j d ∷ cs) =
-    ap₂ (λ (w : ℕ) (fs : List Slot). slot w j ∷ slot dollars_width d ∷ fs) z (slots-by-width e f z cs)
 
 -- each claim's bit and dollars fit their fields
 pub both-fit : (edition : ℕ) (js ds : List ℕ) (i : ℕ) → length js ≡ length ds → i < length ds

@@ -9,10 +9,12 @@ ghost use Rattle.plan.specs.Claim.{claims_of};
 ghost use Rattle.plan.specs.Risk.{slots_of_risks};
 ghost use Rattle.plan.specs.File.{file_of};
 ghost use Rattle.bits.specs.Runs.{Space, Wrote};
+ghost use Rattle.claims.specs.Edition.{edition_number};
 ghost use Rattle.group.specs.Values.{header_is};
 ghost use Rattle.putting.specs.Putting.{first_slots, last_slots, slots_of_risk, given_group, Ready};
 
 use bits::BitPlace;
+use claims::edition::Edition;
 use counts::COUNT_WIDTH;
 use group::Header;
 use header::{
@@ -22,11 +24,11 @@ use header::{
 use runs::put_claims;
 
 // Puts edition to loss conversion factor, and gives the place after them.
-fn put_first(out: &mut [u8], edition: u32, h: Header) -> BitPlace
-    requires { Space out.old 0 (first_slots edition (header_is h)) }
-    ensures { Wrote out.old 0 (first_slots edition (header_is h)) out.new result.at }
+fn put_first(out: &mut [u8], edition: Edition, h: Header) -> BitPlace
+    requires { Space out.old 0 (first_slots (edition_number edition) (header_is h)) }
+    ensures { Wrote out.old 0 (first_slots (edition_number edition) (header_is h)) out.new result.at }
 {
-    let limit = BitPlace { at: 0 }.put(out, EDITION_WIDTH, edition);
+    let limit = BitPlace { at: 0 }.put(out, EDITION_WIDTH, u32::from(edition));
     let premium = limit.put(out, LOSS_LIMIT_WIDTH, h.loss_limit);
     let expense = premium.put(out, STANDARD_PREMIUM_WIDTH, h.standard_premium);
     let conversion = expense.put(out, EXPENSE_WIDTH, h.expense);
@@ -51,13 +53,13 @@ fn put_last(out: &mut [u8], place: BitPlace, h: Header, risks: u32) -> BitPlace
 fn put_risk(
     out: &mut [u8],
     place: BitPlace,
-    edition: u32,
+    edition: Edition,
     joined: &[u8],
     claims: &[u32],
 ) -> BitPlace
-    requires space { Space out.old place.at (slots_of_risk edition joined.now claims.now) }
+    requires space { Space out.old place.at (slots_of_risk (edition_number edition) joined.now claims.now) }
     requires joined_len { length joined.now ≡ length claims.now }
-    ensures { Wrote out.old place.at (slots_of_risk edition joined.now claims.now)
+    ensures { Wrote out.old place.at (slots_of_risk (edition_number edition) joined.now claims.now)
         out.new result.at }
 {
     let next = place.put(out, COUNT_WIDTH, claims.len() as u32);
@@ -68,15 +70,15 @@ fn put_risk(
 fn put_risks(
     out: &mut [u8],
     place: BitPlace,
-    edition: u32,
+    edition: Edition,
     counts: &[u8],
     claims: &[u32],
     joined: &[u8],
 ) -> BitPlace
-    requires space { Space out.old place.at (slots_of_risks edition counts.now (claims_of joined.now claims.now)) }
+    requires space { Space out.old place.at (slots_of_risks (edition_number edition) counts.now (claims_of joined.now claims.now)) }
     requires counts_in_bounds { (sum counts.now ≤ length claims.now) × (length joined.now ≡ length claims.now) }
     ensures { Wrote out.old place.at
-        (slots_of_risks edition counts.now (claims_of joined.now claims.now))
+        (slots_of_risks (edition_number edition) counts.now (claims_of joined.now claims.now))
         out.new result.at }
 {
     let mut next = place;
@@ -97,16 +99,16 @@ fn put_risks(
 // last byte.
 pub fn put_file(
     out: &mut [u8],
-    edition: u32,
+    edition: Edition,
     header: Header,
     counts: &[u8],
     claims: &[u32],
     joined: &[u8],
     size: usize,
 )
-    requires { Ready (given_group edition header counts.now claims.now joined.now) out.old size }
+    requires { Ready (given_group (edition_number edition) header counts.now claims.now joined.now) out.old size }
     ensures { out.new
-        ≡ filled (file_of (given_group edition header counts.now claims.now joined.now))
+        ≡ filled (file_of (given_group (edition_number edition) header counts.now claims.now joined.now))
         out.old }
 {
     let first = put_first(out, edition, header);

@@ -6,13 +6,14 @@ ghost use Rattle.std.specs.Prelude.{◌≡◌, map, ◌+◌, ◌≤◌, length};
 ghost use Rattle.std.proofs.Math.Seq.{paste};
 ghost use Rattle.plan.specs.Calls.{filled};
 ghost use Rattle.plan.specs.Claim.{dollars, claims_from, past_claims};
-ghost use Rattle.plan.specs.Header.{edition_of};
 ghost use Rattle.plan.specs.Risk.{counts_from, risks_from, all_claims};
 ghost use Rattle.claims.specs.Claim.{RunReach};
+ghost use Rattle.claims.specs.Edition.{LieAs};
 ghost use Rattle.reading.specs.Reading.{bit, buffers, RisksRoom, ReadSays};
 
 use bits::BitPlace;
 use claims::claim::{claim_at, reach_of};
+use claims::edition::Edition;
 use counts::count_at;
 use group::{Header, Refusal};
 use groupfile::opening::{Outline, open_outline};
@@ -31,12 +32,12 @@ fn read_claims(
     file: &[u8],
     place: BitPlace,
     count: u32,
-    edition: u32,
+    edition: Edition,
     claims: &mut [u32],
     joined: &mut [u8],
     from: usize,
 ) -> BitPlace
-    requires run_reach { RunReach place.at count × (edition ≡ edition_of file.now) }
+    requires run_reach { RunReach place.at count × LieAs file.now edition }
     requires count_in_bounds { (from + count ≤ length claims.old) × (from + count ≤ length joined.old) }
     ensures placed { result.at ≡ past_claims file.now place.at count }
     ensures claimed { claims.new
@@ -60,13 +61,13 @@ fn read_risks(
     file: &[u8],
     place: BitPlace,
     risks: usize,
-    edition: u32,
+    edition: Edition,
     counts: &mut [u8],
     claims: &mut [u32],
     joined: &mut [u8],
 )
     requires risks_room { RisksRoom file.now place.at risks (length counts.old) (length claims.old) (length joined.old) }
-    requires edition_value { edition ≡ edition_of file.now }
+    requires edition_value { LieAs file.now edition }
     ensures counted { counts.new
         ≡ filled (counts_from file.now place.at risks) counts.old }
     ensures claimed { claims.new
@@ -111,7 +112,7 @@ pub fn read(
     if joined.len() < run.claims as usize {
         return Err(Refusal::Room);
     }
-    let edition = run.edition;
+    let edition = Edition::or_first(run.edition);
     read_risks(
         file,
         run.first,
@@ -122,7 +123,7 @@ pub fn read(
         joined,
     );
     Ok(ReadValues {
-        edition,
+        edition: run.edition,
         risks,
         header,
     })

@@ -2,16 +2,16 @@
 #![tactic(auto)]
 
 ghost use Rattle.std.specs.Prelude.{◌≡◌, ◌+◌, ◌≤◌};
-ghost use Rattle.plan.specs.Header.{edition_of};
 ghost use Rattle.plan.specs.Risk.{count_width};
 ghost use Rattle.plan.specs.Sizes.{most_file_bits};
 ghost use Rattle.claims.specs.Claim.{RunReach};
+ghost use Rattle.claims.specs.Edition.{LieAs};
 ghost use Rattle.claims.specs.Run.{ClaimsAre};
 ghost use Rattle.risks.specs.Risk.{RiskIs};
 ghost use Rattle.risks.specs.RunningSums.{NextRisk, RiskPassed};
 
 use bits::BitPlace;
-use claims::claim::JOINING_EDITION;
+use claims::edition::Edition;
 use claims::run::ClaimRun;
 use counts::head_at;
 use joined::joined_claims;
@@ -48,20 +48,19 @@ pub struct PassedRisk {
 }
 
 // The claims, as many as `count`, from a place on, by the loop of their edition.
-pub fn claims_at(file: &[u8], place: BitPlace, count: u32, edition: u32, limit: u32) -> ClaimRun
-    requires { RunReach place.at count × (edition ≡ edition_of file.now) }
+pub fn claims_at(file: &[u8], place: BitPlace, count: u32, edition: Edition, limit: u32) -> ClaimRun
+    requires { RunReach place.at count × LieAs file.now edition }
     ensures { ClaimsAre file.now place.at count limit result }
 {
-    if edition == JOINING_EDITION {
-        joined_claims(file, place, count, limit)
-    } else {
-        single_claims(file, place, count, limit)
+    match edition {
+        Edition::First => single_claims(file, place, count, limit),
+        Edition::Second => joined_claims(file, place, count, limit),
     }
 }
 
 // The risk that begins at a place.
-pub fn risk_at(file: &[u8], place: BitPlace, edition: u32, limit: u32) -> Risk
-    requires { (place.at + count_width ≤ most_file_bits) × (edition ≡ edition_of file.now) }
+pub fn risk_at(file: &[u8], place: BitPlace, edition: Edition, limit: u32) -> Risk
+    requires { (place.at + count_width ≤ most_file_bits) × LieAs file.now edition }
     ensures { RiskIs file.now place.at limit result }
 {
     let head = head_at(file, place, edition);
@@ -80,8 +79,8 @@ pub fn risk_at(file: &[u8], place: BitPlace, edition: u32, limit: u32) -> Risk
 
 // One risk more, the one that begins where the risks passed so far end: of the sums over the first k risks and the place of risk
 // k + 1 it makes the sums over the first k + 1 and the next place. No risk before it is gone over again.
-pub fn pass_risk(file: &[u8], sums: SumsSoFar, edition: u32, limit: u32) -> PassedRisk
-    requires { NextRisk file.now limit sums × (edition ≡ edition_of file.now) }
+pub fn pass_risk(file: &[u8], sums: SumsSoFar, edition: Edition, limit: u32) -> PassedRisk
+    requires { NextRisk file.now limit sums × LieAs file.now edition }
     ensures { RiskPassed file.now limit sums.risks result }
 {
     let place = sums.next;

@@ -1,14 +1,17 @@
 // A run of claims of either edition put by pairs: each pair as five whole bytes, and in edition 2 two bits more to be held. One loop is
-// for both; its edition is a const parameter, so that it compiles to one for each. The places in it are made of a byte's number, so that
-// each is seen to begin with a byte: whole bytes are then stored without a look at the bit.
+// for both; whether its claims have bits is a const parameter, so that it compiles to one for each. The places in it are made of a byte's
+// number, so that each is seen to begin with a byte: whole bytes are then stored without a look at the bit.
 #![tactic(auto)]
 
 ghost use Rattle.std.specs.Prelude.{◌≡◌, ◌+◌, ◌*◌, ◌^◌, ◌<◌, length};
 ghost use Rattle.plan.specs.Claim.{joined_width, dollars_width, slots_of_claims, claims_of};
 ghost use Rattle.bits.specs.Runs.{Space, Wrote};
+ghost use Rattle.claims.specs.Edition.{edition_number};
+ghost use Rattle.runs.specs.Edition.{edition_by};
 
 use bits::BitPlace;
-use claims::claim::{JOINING_EDITION, SINGLE_EDITION, claim_width};
+use claims::claim::DOLLARS_WIDTH;
+use claims::edition::Edition;
 use pairs::{PAIR_BYTES, as_one, pair_after};
 use words::extract;
 
@@ -16,11 +19,11 @@ use words::extract;
 const BYTE_WIDTH: u32 = 8;
 
 // A claim of an edition as one number: of edition 1 its dollars alone, without a look at its bit.
-fn number_of<const EDITION: u32>(joined: u8, dollars: u32) -> u32
-    requires { (joined < 2 ^ joined_width EDITION) × (dollars < 2 ^ dollars_width) }
+fn number_of<const JOINS: bool>(joined: u8, dollars: u32) -> u32
+    requires { (joined < 2 ^ joined_width (edition_by JOINS)) × (dollars < 2 ^ dollars_width) }
     ensures { result ≡ joined * 2 ^ dollars_width + dollars }
 {
-    if EDITION == JOINING_EDITION {
+    if JOINS {
         as_one(joined, dollars)
     } else {
         dollars
@@ -28,18 +31,18 @@ fn number_of<const EDITION: u32>(joined: u8, dollars: u32) -> u32
 }
 
 // Puts claims, each with its bit before it, and gives the place after them.
-fn put_run<const EDITION: u32>(
+fn put_run<const JOINS: bool>(
     out: &mut [u8],
     place: BitPlace,
     joined: &[u8],
     claims: &[u32],
 ) -> BitPlace
-    requires space { Space out.old place.at (slots_of_claims EDITION (claims_of joined.now claims.now)) }
+    requires space { Space out.old place.at (slots_of_claims (edition_by JOINS) (claims_of joined.now claims.now)) }
     requires joined_len { length joined.now ≡ length claims.now }
-    ensures { Wrote out.old place.at (slots_of_claims EDITION (claims_of joined.now claims.now))
+    ensures { Wrote out.old place.at (slots_of_claims (edition_by JOINS) (claims_of joined.now claims.now))
         out.new result.at }
 {
-    let width = claim_width(EDITION);
+    let width = u32::from(JOINS) + DOLLARS_WIDTH;
     let mut bits = (place.at % 8) as u32;
     let mut byte = place.at / 8;
     let begun = BitPlace { at: 8 * byte }.take(out, bits);
@@ -47,8 +50,8 @@ fn put_run<const EDITION: u32>(
     let (bit_pairs, last_bit) = joined.as_chunks::<2>();
     let (claim_pairs, last_claim) = claims.as_chunks::<2>();
     for (bit_pair, claim_pair) in bit_pairs.iter().zip(claim_pairs) {
-        let one = number_of::<EDITION>(bit_pair[0], claim_pair[0]);
-        let two = number_of::<EDITION>(bit_pair[1], claim_pair[1]);
+        let one = number_of::<JOINS>(bit_pair[0], claim_pair[0]);
+        let two = number_of::<JOINS>(bit_pair[1], claim_pair[1]);
         let word = pair_after(held, width, one, two);
         // what a pair has beyond its five bytes is held too
         bits = bits + 2 * width - BYTE_WIDTH * PAIR_BYTES as u32;
@@ -66,7 +69,7 @@ fn put_run<const EDITION: u32>(
     if last_claim.is_empty() {
         return next;
     }
-    let last = number_of::<EDITION>(last_bit[0], last_claim[0]);
+    let last = number_of::<JOINS>(last_bit[0], last_claim[0]);
     next.put(out, width, last)
 }
 
@@ -74,17 +77,17 @@ fn put_run<const EDITION: u32>(
 pub fn put_claims(
     out: &mut [u8],
     place: BitPlace,
-    edition: u32,
+    edition: Edition,
     joined: &[u8],
     claims: &[u32],
 ) -> BitPlace
-    requires space { Space out.old place.at (slots_of_claims edition (claims_of joined.now claims.now)) }
+    requires space { Space out.old place.at (slots_of_claims (edition_number edition) (claims_of joined.now claims.now)) }
     requires joined_len { length joined.now ≡ length claims.now }
     ensures { Wrote out.old place.at
-        (slots_of_claims edition (claims_of joined.now claims.now)) out.new result.at }
+        (slots_of_claims (edition_number edition) (claims_of joined.now claims.now)) out.new result.at }
 {
-    if edition == JOINING_EDITION {
-        return put_run::<JOINING_EDITION>(out, place, joined, claims);
+    match edition {
+        Edition::First => put_run::<false>(out, place, joined, claims),
+        Edition::Second => put_run::<true>(out, place, joined, claims),
     }
-    put_run::<SINGLE_EDITION>(out, place, joined, claims)
 }

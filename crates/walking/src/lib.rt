@@ -4,12 +4,14 @@
 #![tactic(auto)]
 
 ghost use Rattle.std.specs.Prelude.{◌≡◌, ◌≤◌};
-ghost use Rattle.plan.specs.Header.{edition_of, header_bits};
+ghost use Rattle.plan.specs.Header.{header_bits};
 ghost use Rattle.plan.specs.Sizes.{most_risks};
+ghost use Rattle.claims.specs.Edition.{LieAs};
 ghost use Rattle.walking.specs.Walks.{WalkIs};
 
 use arrayvec::ArrayVec;
 use bits::BitPlace;
+use claims::edition::Edition;
 use group::{GroupLosses, Losses};
 use risks::{SumsSoFar, pass_risk};
 
@@ -24,8 +26,8 @@ pub struct Walked {
 }
 
 // The walk over so many risks, one after another, from a place on, which is the header's end.
-pub fn walk(file: &[u8], place: BitPlace, risks: u32, edition: u32, limit: u32) -> Walked
-    requires { (risks ≤ most_risks) × (place.at ≡ header_bits) × (edition ≡ edition_of file.now) }
+pub fn walk(file: &[u8], place: BitPlace, risks: u32, edition: Edition, limit: u32) -> Walked
+    requires { (risks ≤ most_risks) × (place.at ≡ header_bits) × LieAs file.now edition }
     ensures { WalkIs file.now risks limit result }
 {
     let mut of_risks = ArrayVec::new();

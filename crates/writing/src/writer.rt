@@ -5,20 +5,22 @@ ghost use Rattle.plan.specs.Field.{bytes_for};
 ghost use Rattle.plan.specs.Header.{header_bits};
 ghost use Rattle.plan.specs.Claim.{claim_width};
 ghost use Rattle.plan.specs.Risk.{count_width};
+ghost use Rattle.claims.specs.Edition.{edition_number};
 ghost use Rattle.writing.specs.Writer.{given_group, WriteSays};
 
 use claims::claim::claim_width;
+use claims::edition::Edition;
 use counts::COUNT_WIDTH;
 use fitting::{risks_open, values_fit};
 use group::{Header, Refusal};
 use groupfile::opening::HEADER_BYTES;
-use header::{header_verdict, known_edition};
+use header::header_verdict;
 use putting::put_file;
 
 // The length of a file of an edition with so many risks and claims.
-fn file_length(edition: u32, risks: usize, claims: usize) -> usize
+fn file_length(edition: Edition, risks: usize, claims: usize) -> usize
     requires { (risks ≤ most_risks) × (claims ≤ most_claims * most_risks) }
-    ensures { result ≡ bytes_for (header_bits + count_width * risks + claim_width edition * claims) }
+    ensures { result ≡ bytes_for (header_bits + count_width * risks + claim_width (edition_number edition) * claims) }
 {
     let bits = 8 * HEADER_BYTES
         + COUNT_WIDTH as usize * risks
@@ -38,9 +40,7 @@ pub fn write(
     ensures { WriteSays (given_group edition header counts.now claims.now joined.now)
         out.old result out.new }
 {
-    if !known_edition(edition) {
-        return Err(Refusal::Edition);
-    }
+    let edition = Edition::try_from(edition)?;
     header_verdict(header, counts.len())?;
     if !values_fit(edition, header, counts, claims, joined) {
         return Err(Refusal::Misfit);

@@ -30,4 +30,4 @@ past_claims-next-requires c =
     }
 
 pub loop-preserved : goal.loop-preserved
-loop-preserved c = (omega arith, counting_more c.loop.invariant.1 c.head_at-head.ensures c.requires.2 c.past_claims-next.ensures)
+loop-preserved c = (omega arith, counting_more c.loop.invariant.1 c.args.edition c.head_at-head.ensures c.requires.2 c.past_claims-next.ensures)

@@ -7,12 +7,13 @@ use Rattle.std.proofs.iter.runs.Made.{chains}
 use Rattle.std.specs.List.{fold}
 use Rattle.plan.specs.Field.{fits, all_fit}
 use Rattle.plan.specs.Claim.{joined_width}
+use Rattle.claims.specs.Edition.{edition_number}
 use Rattle.fitting.proofs.Fits.{greatest-asked}
 use Rattle.fitting.proofs.joined_fit.Goals as goal
 
 pub returns : goal.returns
 returns c =
-    let w = joined_width c.args.edition in
+    let w = joined_width (edition_number c.args.edition) in
     let e : c.fold-most.result ≡ fold max 0 c.args.joined.now = search (rules, chains) in
     c.value_fits.ensures ∙ ap₂ fits c.joined_width.ensures e ∙ greatest-asked w 0 c.args.joined.now
     ∙ ap (λ (b : Bool). b && all_fit w c.args.joined.now) (lt-ltb 0 (2 ^ w) (pow_pos w))

@@ -6,6 +6,7 @@ use borrow.Author.Rules.{rules}
 use lib.ListN.{get_or}
 use Rattle.bits.proofs.WholeBytes.{fields-put}
 use Rattle.plan.specs.File.{file_slots}
+use Rattle.claims.specs.Edition.{edition_number}
 use Rattle.putting.specs.Putting.{given_group}
 use Rattle.putting.proofs.Runs.{sound, bytes, enough, small, space, first-space, last-space, after_last, fields-wrote}
 use Rattle.putting.proofs.Runs.{fill-starts, fill-small, fill-room}
@@ -53,5 +54,5 @@ returns c =
     let a = c.args in
     let x = fields-wrote p c.put_first-first.ensures c.put_last-last.ensures c.put_risks-end.ensures in
     let was : (i : ℕ) → get_or a.out.now i 0 < 256 = search rules in
-    fields-put (file_slots (given_group a.edition a.header a.counts.now a.claims.now a.joined.now))
+    fields-put (file_slots (given_group (edition_number a.edition) a.header a.counts.now a.claims.now a.joined.now))
     (space p).fitting was (λ i. (c.type_inv.out i).fits) x c.put.ensures.put (bytes p) (enough p)

@@ -6,6 +6,7 @@ use lib.ListN.{drop_of_length-le}
 use Rattle.plan.specs.Claim.{claims_of}
 use Rattle.plan.specs.Risk.{slots_of_risks}
 use Rattle.bits.proofs.Runs.{space-first, putting-as, putting-ends}
+use Rattle.claims.specs.Edition.{edition_number}
 use Rattle.putting.proofs.Risks.{next, goes_on}
 use Rattle.putting.proofs.put_risks.Goals as goal
 
@@ -26,5 +27,5 @@ returns c =
     let g = c.loop-count.invariant in
     putting-ends
     (putting-as g.putting
-    (ap (λ (x : List ℕ). slots_of_risks c.args.edition x (claims_of c.loop-count.joined_left.now c.loop-count.claims_left.now))
+    (ap (λ (x : List ℕ). slots_of_risks (edition_number c.args.edition) x (claims_of c.loop-count.joined_left.now c.loop-count.claims_left.now))
     (drop_of_length-le c.args.counts.now c.loop-count-test.false)))

@@ -1,7 +1,8 @@
 -- The invariant: of the risks, those from the turn's on are left to be put, with the claims and the bits that are left.
+use Rattle.claims.specs.Edition.{edition_number}
 use Rattle.putting.proofs.Risks.{Risks}
 use Rattle.putting.proofs.put_risks.Given as goal
 
 abbrev pub invariant-loop-count : goal.invariant-loop-count
 invariant-loop-count l =
-    Risks l.fn.out l.fn.place.at l.edition l.counts l.claims l.joined l.out l.next.at l.count-index l.claims_left l.joined_left
+    Risks l.fn.out l.fn.place.at (edition_number l.edition) l.counts l.claims l.joined l.out l.next.at l.count-index l.claims_left l.joined_left

@@ -7,6 +7,8 @@ use Rattle.plan.specs.Field.{field}
 use Rattle.plan.specs.Header.{edition_of}
 use Rattle.plan.specs.Claim.{claim_width, dollars_width}
 use Rattle.plan.proofs.Claims.{past-claim, joined-of-both, dollars-of-both}
+use Rattle.claims.specs.Edition.{edition_number}
+use Rattle.claims.proofs.Taking.{width-like}
 use Rattle.claims.proofs.claim.claim_at.Goals as goal
 
 pub returns : goal.returns
@@ -14,7 +16,8 @@ returns c =
     let s = c.args.file.now in
     let at = c.args.place.at in
     let t = c.fields_at-taken in
-    let width : claim_width c.args.edition ≡ claim_width (edition_of s) = ap claim_width c.requires.1 in
+    let width : claim_width (edition_number c.args.edition) ≡ claim_width (edition_of s) =
+    width-like s c.args.edition c.requires.1 in
     let both : t.result.value ≡ field s at (claim_width (edition_of s)) = t.ensures.is ∙ ap (field s at) width in
     record {
       bit = ap (λ (x : ℕ). x / 2 ^ dollars_width) both ∙ joined-of-both s at;

@@ -1,7 +1,8 @@
 -- The walk is that of the file's own n and loss limit, from the header's end on: after the last risk its running sums are SL and
 -- SA, and it is at the file's end.
-use Rattle.std.proofs.Common.{ap, subst₂, ℕ, arith}
+use Rattle.std.proofs.Common.{ap, ◌∙◌, subst₂, ℕ, arith}
 use Rattle.plan.specs.Header as plan
+use Rattle.plan.specs.Claim.{joined_width}
 use Rattle.plan.proofs.FileSizes.{risks-le}
 use Rattle.risks.proofs.RunningSums.{total-is-all, limited-is-all}
 use Rattle.walking.specs.Walks.{WalkIs}
@@ -10,7 +11,7 @@ use Rattle.groupfile.proofs.opening.open.Goals as goal
 pub walk-walked-requires : goal.walk-walked-requires
 walk-walked-requires c =
     let e = c.header_of-header.ensures in
-    (omega (arith, e.risks, risks-le c.args.file.now), e.next, e.edition)
+    (omega (arith, e.risks, risks-le c.args.file.now), e.next, c.or_first-edition.ensures ∙ ap joined_width e.edition)
 
 pub returns : goal.returns
 returns c =

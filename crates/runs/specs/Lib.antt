@@ -1,0 +1,2 @@
+-- The edition of a run.
+pub mod Edition
