@@ -64,7 +64,8 @@ impl BitPlace {
         }
     }
 
-    // Puts the field of `width` bits at this place, a byte a turn, and gives the next place.
+    // Puts the field of `width` bits at this place, a byte a turn, and gives the next place. Each turn goes on by as many bits as lie in the
+    // byte, a number that it finds anew: no range or iterator steps so.
     pub fn put(self, out: &mut [u8], width: u32, value: u32) -> BitPlace
         requires { Room out.old self.at width value }
         ensures next { result.at ≡ self.at + width }

@@ -1,8 +1,7 @@
-// One claim as it lies in a file of either edition: taken at a place or from a word's front, and whether it fits; and where a run of
-// claims ends. How claims are put is the crate `runs`.
+// One claim as it lies in a file of either edition: its widths, taken at a place or from a word's front; and where a run of claims
+// ends. How claims are put is the crate `runs`.
 ghost use Rattle.std.specs.Prelude.{◌≡◌, ◌+◌, ◌*◌, ◌/◌, ◌≤◌, min};
 ghost use Rattle.plan.specs.Sizes.{largest_claim};
-ghost use Rattle.plan.specs.Field.{fits};
 ghost use Rattle.plan.specs.Claim.{joined_width, dollars_width, claim_width};
 ghost use Rattle.bits.specs.Take.{Took};
 ghost use Rattle.claims.specs.Claim.{ClaimReach, ClaimTaken, RunReach, front_dollars};

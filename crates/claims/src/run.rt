@@ -1,5 +1,5 @@
-// A run of claims as the file has it, and what the loss limit leaves of an accident's sum. The loops over the claims of a risk give the
-// one and use the other.
+// A run of claims as the file has it, and what the loss limit leaves of an accident's sum. The loop over the claims of a risk gives
+// the one and uses the other.
 ghost use Rattle.std.specs.Prelude.{◌≡◌};
 ghost use Rattle.plan.specs.Losses.{limited_to};
 

@@ -6,7 +6,7 @@
 ghost use Rattle.std.specs.Prelude.{◌≡◌, ◌&&◌, ◌<◌, ◌≤◌, eqb, length};
 ghost use Rattle.plan.specs.Arithmetic.{sum};
 ghost use Rattle.plan.specs.Sizes.{most_risks};
-ghost use Rattle.plan.specs.Field.{fits, all_fit};
+ghost use Rattle.plan.specs.Field.{all_fit};
 ghost use Rattle.plan.specs.Claim.{joined_width, dollars_width};
 ghost use Rattle.plan.specs.Risk.{count_width};
 ghost use Rattle.plan.specs.Questions.{ask, header_fits, question15};

@@ -1,5 +1,5 @@
 -- A claim's two fields are as well one field, of both widths, whose number is the bit with the dollars' bits after it. So claims
--- may be put as one field each; where the bit's field has no bits these are the dollars alone. Assumes nothing.
+-- may be put as one field each. Assumes nothing.
 use mathlib.Core.Path.{◌≡◌, refl, ap}
 use mathlib.Core.List.{List, [], ◌∷◌, map}
 use Prim.Native.Nat.{ℕ, zero, suc, ◌+◌, ◌*◌, ◌^◌, ◌<◌}

@@ -1,4 +1,4 @@
-// A risk as the file has it, its claims by the loop of their edition, and a risk passed: the running sums with it.
+// A risk as the file has it, its claims by the sums of their edition, and a risk passed: the running sums with it.
 #![tactic(auto)]
 
 ghost use Rattle.std.specs.Prelude.{◌≡◌, ◌+◌, ◌≤◌};
@@ -47,7 +47,7 @@ pub struct PassedRisk {
     pub sums: SumsSoFar,
 }
 
-// The claims, as many as `count`, from a place on, by the loop of their edition.
+// The claims, as many as `count`, from a place on, by the sums of their edition.
 pub fn claims_at(file: &[u8], place: BitPlace, count: u32, edition: Edition, limit: u32) -> ClaimRun
     requires { RunReach place.at count × LieAs file.now edition }
     ensures { ClaimsAre file.now place.at count limit result }

@@ -1,5 +1,5 @@
-// Bits of a word of eight bytes and of one byte, by shifts and masks: the word from a byte of a file on, some bits of it, and a
-// byte with some bits put in. Bytes past the end of the file are 0.
+// Bits of a word of eight bytes and of one byte, by shifts and masks: the word from a byte of a file on, some bits of it, whether
+// a value fits so many, and a byte with some bits put in. Bytes past the end of the file are 0.
 #![tactic(auto)]
 
 ghost use Rattle.std.specs.Prelude.{◌≡◌, ◌+◌, ◌-◌, ◌*◌, ◌/◌, ◌%◌, ◌^◌, ◌≤◌, ◌<◌, length};
@@ -84,7 +84,7 @@ fn word_at_end(file: &[u8], i: usize) -> u64
     u64::from_be_bytes(array::from_fn(|k| file.get(i + k).copied().unwrap_or(0)))
 }
 
-// ---- put: some bits of one byte
+// ---- put: whether a value fits, and some bits of one byte
 
 // Whether a value fits so many bits.
 pub fn value_fits(width: u32, value: u32) -> bool
