@@ -85,9 +85,9 @@ module _ (s old new : List ℕ) where
 -- ---- Table
 
 module _ (s : List ℕ) (r : ℕ) where
-  pub table-refused : (no : Refusal) (charge savings : ℕ) → answer_is ratios_are (Err no) ≡ table s r
-      → TableExported s r (number_of no) charge charge savings savings
-  table-refused no charge savings e = record {
+  pub table-refused : (why : Refusal) (charge savings : ℕ) → answer_is ratios_are (Err why) ≡ table s r
+      → TableExported s r (number_of why) charge charge savings savings
+  table-refused why charge savings e = record {
     code_is = ap code_of e;
     charge_is = ap (λ (a : Answer Tabled). number_after (λ t. t.charge) a charge) e;
     savings_is = ap (λ (a : Answer Tabled). number_after (λ t. t.savings) a savings) e;
@@ -211,18 +211,18 @@ module _ (s : List ℕ) (ls : List Layer) (old_premiums : List ℕ) (old_differe
 -- ---- a charge of the 1965 table
 
 module _ (column r : ℕ) where
-  pub charge-refused : (no : Refusal) (x : Float) (n : ℕ) → answer_is charged_is (Err no) ≡ charge1965 column r
-      → ChargeExported column r (number_of no) x x n n
-  charge-refused no x n e = record {
+  pub charge-refused : (why : Refusal) (x : Float) (n : ℕ) → answer_is charged_is (Err why) ≡ charge1965 column r
+      → ChargeExported column r (number_of why) x x n n
+  charge-refused why x n e = record {
     code_is = ap code_of e;
     charge_is = kept (λ (c : Charged). c.unrounded) x (sym e);
     thousandths_are = kept (λ (c : Charged). c.in_thousandths) n (sym e);
   }
 
   -- of a refusal nothing more is said
-  pub none-on-table : (no : Refusal) (x : Float) (n : ℕ) → answer_is charged_is (Err no) ≡ charge1965 column r
+  pub none-on-table : (why : Refusal) (x : Float) (n : ℕ) → answer_is charged_is (Err why) ≡ charge1965 column r
       → OnTableAfter (charge1965 column r) column r x n
-  none-on-table no x n e = subst (λ (a : Answer Charged). OnTableAfter a column r x n) e tt
+  none-on-table why x n e = subst (λ (a : Answer Charged). OnTableAfter a column r x n) e tt
 
   module _ (t : charging.TableCharge) (e : answer_is charged_is (Ok t) ≡ charge1965 column r) where
     pub charge-given : (x : Float) (n : ℕ) → ChargeExported column r 0 x t.charge n t.thousandths
