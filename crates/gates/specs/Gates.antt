@@ -9,11 +9,12 @@ use Rattle.group.specs.Refusals.{answer_is}
 use Rattle.group.specs.Values.{header_is, LossesAre}
 use Rattle.groupfile.specs.Opening.{RiskRunIs}
 use Rattle.steps.specs.Terms.{terms_is}
-use Rattle.gates.specs.declared.RatingOpened.{RatingOpened}
+use Rattle.groupfile.specs.declared.opening.Opened.{Opened}
+use Rattle.steps.specs.declared.bill.Terms.{Terms}
 
 -- of the file s: its terms, or the first No of 1 to 12; and, whatever that is, the header values, where the risks lie, and step 1's losses
-pub record RatingOpenedIs (s : List ℕ) (r : RatingOpened) : Type 0 where
-  pub terms : answer_is terms_is r.terms ≡ answer (first_no (rating_questions s)) (terms_of (header_of s) (losses_in s))
+pub record RatingOpenedIs (s : List ℕ) (r : Opened Terms) : Type 0 where
+  pub verdict : answer_is terms_is r.verdict ≡ answer (first_no (rating_questions s)) (terms_of (header_of s) (losses_in s))
   pub header : header_is r.header ≡ header_of s
   pub run : RiskRunIs s r.run
   pub losses : LossesAre (losses_in s) r.losses

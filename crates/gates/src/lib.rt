@@ -8,20 +8,10 @@ ghost use Rattle.group.specs.Refusals.{verdict_is};
 ghost use Rattle.groupfile.specs.Opening.{OpenedIs};
 ghost use Rattle.gates.specs.Gates.{RatingOpenedIs};
 
-use group::{GroupLosses, Header, Refusal};
-use groupfile::opening::{Opened, RiskRun, open};
+use group::Refusal;
+use groupfile::opening::{Opened, open};
 use steps::balance::balance;
 use steps::bill::Terms;
-
-// The terms of a file's group, or the question of 1 to 12 that failed; and, whatever they come to, its header values, its risks as
-// they lie in the file, and its losses.
-#[derive(Drop)]
-pub struct RatingOpened {
-    pub terms: Result<Terms, Refusal>,
-    pub header: Header,
-    pub run: RiskRun,
-    pub losses: GroupLosses,
-}
 
 // Question 10 of a group's limited losses.
 fn losses_verdict(limited: u64) -> Result<(), Refusal>
@@ -34,7 +24,7 @@ fn losses_verdict(limited: u64) -> Result<(), Refusal>
 }
 
 // Questions 1 to 10.
-pub fn open_losses(file: &[u8]) -> Opened
+pub fn open_losses(file: &[u8]) -> Opened<()>
     ensures { OpenedIs (loss_questions file.now) file.now result }
 {
     let Opened {
@@ -52,8 +42,8 @@ pub fn open_losses(file: &[u8]) -> Opened
     }
 }
 
-// Questions 1 to 12.
-pub fn open_rating(file: &[u8]) -> RatingOpened
+// Questions 1 to 12, and where they pass the terms of the file's group.
+pub fn open_rating(file: &[u8]) -> Opened<Terms>
     ensures { RatingOpenedIs file.now result }
 {
     let Opened {
@@ -66,8 +56,8 @@ pub fn open_rating(file: &[u8]) -> RatingOpened
         Ok(()) => balance(header, &losses),
         Err(refusal) => Err(refusal),
     };
-    RatingOpened {
-        terms,
+    Opened {
+        verdict: terms,
         header,
         run,
         losses,

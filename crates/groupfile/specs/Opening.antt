@@ -18,7 +18,7 @@ pub record RiskRunIs (s : List ℕ) (r : RiskRun) : Type 0 where
   pub claims : r.claims ≡ sum (counts_of s)
 
 -- of the file s: the gate's verdict and, whatever it is, the header values, where the risks lie, and step 1's losses
-pub record OpenedIs (gate : List Question) (s : List ℕ) (r : Opened) : Type 0 where
+pub record OpenedIs (gate : List Question) (s : List ℕ) (r : Opened Unit) : Type 0 where
   pub verdict : verdict_is r.verdict ≡ first_no gate
   pub header : header_is r.header ≡ header_of s
   pub run : RiskRunIs s r.run

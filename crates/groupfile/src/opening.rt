@@ -18,8 +18,8 @@ use walking::walk;
 // Bytes of the header.
 pub const HEADER_BYTES: usize = 16;
 
-// The risks as they lie in a file, for a call that goes over their claims: the number of the edition, the place of the first, and the
-// number of all claims. A file opened with its losses has them too, for a call that goes over the claims again.
+// The risks as they lie in a file, for a call that goes over their claims: the number of the edition as the file has it, which may be
+// none's, the place of the first, and the number of all claims. A file opened with its losses has them too, for a call that goes over the claims again.
 #[derive(Clone, Copy)]
 pub struct RiskRun {
     pub edition: u32,
@@ -27,16 +27,17 @@ pub struct RiskRun {
     pub claims: u32,
 }
 
-// What questions come to, and what a file has whatever they come to: the header values, its risks, and the losses.
+// What questions come to, and where they pass what comes of them; and what a file has whatever they come to: the header values, its
+// risks, and the losses.
 #[derive(Drop)]
-pub struct Opened {
-    pub verdict: Result<(), Refusal>,
+pub struct Opened<T> {
+    pub verdict: Result<T, Refusal>,
     pub header: Header,
     pub run: RiskRun,
     pub losses: GroupLosses,
 }
 
-// The same without the losses, and n in their place.
+// The same without the losses, and n in their place, which are other fields and not another type of one.
 #[derive(Clone, Copy)]
 pub struct Outline {
     pub verdict: Result<(), Refusal>,
@@ -82,7 +83,7 @@ fn file_verdict(file: &[u8], header: FileHeader, end: BitPlace, opened: bool) ->
 }
 
 // Opens a file of whatever bytes.
-pub fn open(file: &[u8]) -> Opened
+pub fn open(file: &[u8]) -> Opened<()>
     ensures { OpenedIs (file_questions file.now) file.now result }
 {
     let header = header_of(file);

@@ -17,8 +17,9 @@ ghost use Rattle.guaranteed.specs.Comparisons.{Differing, CompareSays, BesideGiv
 
 use discount::discounts::discount_of;
 use discount::schedule::{Schedule, schedule_verdict};
-use gates::{RatingOpened, open_rating};
+use gates::open_rating;
 use group::{Losses, Refusal};
+use groupfile::opening::Opened;
 use rating::rates::{GroupFigures, put_bills};
 use steps::bill::Terms;
 
@@ -90,8 +91,8 @@ pub fn compare(
         premiums.new differences.new }
     ensures beside { BesideGiven result file.now premiums.new differences.new }
 {
-    let RatingOpened {
-        terms,
+    let Opened {
+        verdict: terms,
         header,
         losses,
         ..

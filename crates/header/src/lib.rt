@@ -32,7 +32,8 @@ pub const RISKS_WIDTH: u32 = 8;
 
 pub const SPARE_WIDTH: u32 = 1;
 
-// The header as a file has it: the header values, what stands around them, and the place where the header ends.
+// The header as a file has it: the header values, what stands around them, with the edition as the number that may be none's, and the
+// place where the header ends.
 #[derive(Clone, Copy)]
 pub struct FileHeader {
     pub edition: u32,

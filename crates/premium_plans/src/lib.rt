@@ -19,7 +19,8 @@ use totals::{PlanTerms, Target, owed_of};
 // The largest basic premium, in dollars.
 pub const MOST_BASIC: u32 = 1048575;
 
-// The trials made, the best basic premium yet that reaches the total, and the largest known to fall short, −1 if none.
+// The trials made, the best basic premium yet that reaches the total, and the largest known to fall short, −1 if none, as the
+// number lent by C has it.
 #[derive(Clone, Copy)]
 pub struct PlanFound {
     pub made: u32,

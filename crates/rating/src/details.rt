@@ -5,8 +5,9 @@ ghost use Rattle.plan.specs.Sizes.{most_risks};
 ghost use Rattle.rating.specs.Details.{DetailsAre};
 
 use arrayvec::ArrayVec;
-use gates::{RatingOpened, open_rating};
+use gates::open_rating;
 use group::{GroupLosses, Losses, MOST_RISKS};
+use groupfile::opening::Opened;
 use steps::ratable::ratable_of;
 
 // The losses, and K of each risk; where the file is refused there is no K.
@@ -32,7 +33,11 @@ fn ratables_of(losses: &[Losses], minimum: u32, maximum: u32) -> ArrayVec<u32, M
 pub fn details_of(file: &[u8]) -> Details
     ensures { DetailsAre file.now result }
 {
-    let RatingOpened { terms, losses, .. } = open_rating(file);
+    let Opened {
+        verdict: terms,
+        losses,
+        ..
+    } = open_rating(file);
     let ratables = match terms {
         Ok(terms) => ratables_of(&losses.of_risks, terms.minimum, terms.maximum),
         Err(_) => ArrayVec::new(),

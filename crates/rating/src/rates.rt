@@ -8,8 +8,9 @@ ghost use Rattle.rating.specs.Bills.{bills_of, Billable};
 ghost use Rattle.rating.specs.Rates.{RateSays, Demanded};
 
 use bits::BitPlace;
-use gates::{RatingOpened, open_rating};
+use gates::open_rating;
 use group::{Losses, Refusal};
+use groupfile::opening::Opened;
 use steps::bill::Terms;
 
 // What Rate gives beside the premiums: n, M, Q and the sum billed.
@@ -44,7 +45,11 @@ pub fn rate(file: &[u8], premiums: &mut [u8]) -> Result<GroupFigures, Refusal>
     ensures says { RateSays file.now premiums.old result premiums.new }
     ensures demand3 { Demanded result file.now premiums.new }
 {
-    let RatingOpened { terms, losses, .. } = open_rating(file);
+    let Opened {
+        verdict: terms,
+        losses,
+        ..
+    } = open_rating(file);
     let terms = terms?;
     if premiums.len() < 4 * terms.risks as usize {
         return Err(Refusal::Room);

@@ -18,7 +18,7 @@ use counts::count_at;
 use group::{Header, Refusal};
 use groupfile::opening::{Outline, open_outline};
 
-// What Read gives beside the buffers: the edition, the number of risks and the header values.
+// What Read gives beside the buffers: the number of the edition, as C gets it, the number of risks and the header values.
 #[derive(Clone, Copy)]
 pub struct ReadValues {
     pub edition: u32,

@@ -28,7 +28,8 @@ fn file_length(edition: Edition, risks: usize, claims: usize) -> usize
     (bits + 7) / 8
 }
 
-// The file of given values, put over the first bytes of `out`; or the first question that failed, and nothing.
+// The file of given values, put over the first bytes of `out`; or the first question that failed, and nothing. The edition is the number
+// that C gives.
 pub fn write(
     edition: u32,
     header: Header,

@@ -25,7 +25,7 @@ returns c =
     let s = c.args.file.now in
     let x = c.open_losses-verdict.ensures in
     record {
-      terms =
+      verdict =
           elim c.match-verdict.branch [
             | in-Ok w ↦
                 ap (answer_is terms_is) w.terms-is

@@ -19,7 +19,7 @@ use Rattle.group.specs.declared.Losses as group
 use Rattle.steps.specs.Terms.{terms_is}
 use Rattle.steps.specs.declared.bill.Terms.{Terms}
 use Rattle.gates.specs.Gates.{RatingOpenedIs}
-use Rattle.gates.specs.declared.RatingOpened.{RatingOpened}
+use Rattle.groupfile.specs.declared.opening.Opened.{Opened}
 use Rattle.gates.proofs.Given.{passes, risks_are, risk-count}
 use Rattle.discount.specs.Schedules.{layers_of, Discountable}
 use Rattle.rating.specs.Bills.{bills_of, Billable}
@@ -40,7 +40,7 @@ module _ (s : List ℕ) (ls : List Layer) (premiums : List ℕ) (differences : L
       ap (λ (k : ℕ). first_no (question13 (leb (4 * k) (length premiums) && leb k (length differences)) ∷ [])) (sym (risk-count s t gave)) ∙ x in
       λ i. or_else (thirteen i) (y i)
 
-  module _ {o : RatingOpened} (x : RatingOpenedIs s o) (all : last_verdict s ls premiums differences ≡ passed) where
+  module _ {o : Opened Terms} (x : RatingOpenedIs s o) (all : last_verdict s ls premiums differences ≡ passed) where
     -- the file's premium can be discounted
     discountable : Discountable ls o.header.standard_premium
     discountable =
@@ -75,7 +75,7 @@ returns-in_err-terms-clause-says c =
     let ls = layers_of a.schedule.layers in
     let no =
     refused-failed (first_no (rating_questions s)) (terms_of (header_of s) (losses_in s))
-    (sym c.open_rating-terms.ensures.terms ∙ ap (answer_is terms_is) c.in_err-terms.was) in
+    (sym c.open_rating-terms.ensures.verdict ∙ ap (answer_is terms_is) c.in_err-terms.was) in
     let p = err_from_is_err_and c.from_residual.result c.from_residual.ensures.1 in
     rw (p.1, p.2) (refused_says s ls a.premiums.now a.differences.now _ (verdict s ls a.premiums.now a.differences.now no refl))
 
@@ -84,7 +84,7 @@ returns-in_err-room_verdict-clause-says c =
     let a = c.args in
     let s = a.file.now in
     let ls = layers_of a.schedule.layers in
-    let gave = sym (ap (answer_is terms_is) c.in_ok-terms.was) ∙ c.open_rating-terms.ensures.terms in
+    let gave = sym (ap (answer_is terms_is) c.in_ok-terms.was) ∙ c.open_rating-terms.ensures.verdict in
     let no =
     last_is s ls a.premiums.now a.differences.now c.in_ok-terms.terms gave (sym c.room_verdict.ensures ∙ ap verdict_is c.in_err-room_verdict.was) refl in
     let p = err_from_is_err_and c.from_residual-in_err-room_verdict.result c.from_residual-in_err-room_verdict.ensures.1 in
@@ -95,7 +95,7 @@ returns-in_err-schedule_verdict-clause-says c =
     let a = c.args in
     let s = a.file.now in
     let ls = layers_of a.schedule.layers in
-    let gave = sym (ap (answer_is terms_is) c.in_ok-terms.was) ∙ c.open_rating-terms.ensures.terms in
+    let gave = sym (ap (answer_is terms_is) c.in_ok-terms.was) ∙ c.open_rating-terms.ensures.verdict in
     let no =
     last_is s ls a.premiums.now a.differences.now c.in_ok-terms.terms gave (sym c.room_verdict.ensures ∙ ap verdict_is c.in_ok-room_verdict.was)
     (sym c.schedule_verdict.ensures ∙ ap verdict_is c.in_err-schedule_verdict.was) in
@@ -108,7 +108,7 @@ returns-in_err-schedule_verdict-clause-says c =
 module _ (c : In_ok-schedule_verdict) where
   gave : answer_is terms_is (Ok c.in_ok-terms.terms)
       ≡ answer (first_no (rating_questions c.args.file.now)) (terms_of (header_of c.args.file.now) (losses_in c.args.file.now))
-  gave = sym (ap (answer_is terms_is) c.in_ok-terms.was) ∙ c.open_rating-terms.ensures.terms
+  gave = sym (ap (answer_is terms_is) c.in_ok-terms.was) ∙ c.open_rating-terms.ensures.verdict
 
   all-passed : last_verdict c.args.file.now (layers_of c.args.schedule.layers) c.args.premiums.now c.args.differences.now ≡ passed
   all-passed =

@@ -12,7 +12,7 @@ use Rattle.premium_plans.proofs.Selling.{AtHand, sold-by, planned, excess-bounds
 use Rattle.premium_plans.proofs.plan.Goals as goal
 
 -- what is at hand past question 10
-at-hand : {s : List ℕ} {o : Opened} {u : Unit} → OpenedIs (loss_questions s) s o → o.verdict ≡ Ok u → AtHand s o.header o.losses
+at-hand : {s : List ℕ} {o : Opened Unit} {u : Unit} → OpenedIs (loss_questions s) s o → o.verdict ≡ Ok u → AtHand s o.header o.losses
 at-hand x e = record { passes = sym x.verdict ∙ ap verdict_is e; header = x.header; losses = x.losses }
 
 pub returns-then-minimum-maximum-clause-says : goal.returns-then-minimum-maximum-clause-says

@@ -16,7 +16,7 @@ use Rattle.tables.proofs.Tabling.{charge-bounds, savings-bounds, charge_is, savi
 use Rattle.tables.proofs.table.Goals as goal
 
 -- what is at hand past question 14
-at-hand : {s : List ℕ} {r n : ℕ} {o : Opened} → OpenedIs (loss_questions s) s o → o.verdict ≡ Ok tt → r ≤ most_ratio
+at-hand : {s : List ℕ} {r n : ℕ} {o : Opened Unit} → OpenedIs (loss_questions s) s o → o.verdict ≡ Ok tt → r ≤ most_ratio
     → n ≡ length o.losses.of_risks.items → AtHand s r n o.losses.limited (losses_is o.losses)
 at-hand x e h count = record {
   passes = sym x.verdict ∙ ap verdict_is e;

@@ -42,7 +42,7 @@ returns c =
           elim c.match-terms.branch [
             | in-Ok w ↦
                 let t = w.in-Ok.terms in
-                let gave = sym (ap (answer_is terms_is) w.in-Ok.is) ∙ x.terms in
+                let gave = sym (ap (answer_is terms_is) w.in-Ok.is) ∙ x.verdict in
                 ap (λ y. y.items) w.ratables-is
                 ∙ w.ratables_of-ratables.ensures
                 ∙ ap (map (λ (y : group.Losses). clamp t.minimum t.maximum y.limited)) w.deref.ensures.0
@@ -51,7 +51,7 @@ returns c =
             | in-Err w ↦
                 let failed =
                 refused-failed (first_no (rating_questions s)) (terms_of (header_of s) (losses_in s))
-                (sym x.terms ∙ ap (answer_is terms_is) w.in-Err.is) in
+                (sym x.verdict ∙ ap (answer_is terms_is) w.in-Err.is) in
                 ap (λ y. y.items) w.ratables-is ∙ w.new-ratables.ensures ∙ sym (ap (λ (v : Verdict). ratables_after v s) failed)
           ];
     }

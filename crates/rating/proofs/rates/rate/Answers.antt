@@ -38,7 +38,7 @@ returns-in_err-terms-clause-says c =
     let old = c.args.premiums.now in
     let failed =
     refused-failed (first_no (rating_questions s)) (terms_of (header_of s) (losses_in s))
-    (sym c.open_rating-terms.ensures.terms ∙ ap (answer_is terms_is) c.in_err-terms.was) in
+    (sym c.open_rating-terms.ensures.verdict ∙ ap (answer_is terms_is) c.in_err-terms.was) in
     let p = err_from_is_err_and c.from_residual.result c.from_residual.ensures.1 in
     rw (p.1, p.2) (refused_says s old _ (verdict s old failed refl))
 
@@ -46,14 +46,14 @@ pub returns-then-premiums-terms-clause-says : goal.returns-then-premiums-terms-c
 returns-then-premiums-terms-clause-says c =
     let s = c.args.file.now in
     let old = c.args.premiums.now in
-    let gave = sym (ap (answer_is terms_is) c.in_ok-terms.was) ∙ c.open_rating-terms.ensures.terms in
+    let gave = sym (ap (answer_is terms_is) c.in_ok-terms.was) ∙ c.open_rating-terms.ensures.verdict in
     let few : length old < 4 * risk_count s = omega (arith, c.if-premiums-terms.true, risk-count s c.in_ok-terms.terms gave) in
     refused_says s old _ (verdict s old (passes s c.in_ok-terms.terms gave) (lt-leb _ _ few))
 
 pub put_bills-billed-requires : goal.put_bills-billed-requires
 put_bills-billed-requires c =
     let s = c.args.file.now in
-    let gave = sym (ap (answer_is terms_is) c.in_ok-terms.was) ∙ c.open_rating-terms.ensures.terms in
+    let gave = sym (ap (answer_is terms_is) c.in_ok-terms.was) ∙ c.open_rating-terms.ensures.verdict in
     subst (λ (l : List group.Losses). Billable (losses_of l) c.args.premiums.now) (sym c.deref.ensures.0)
     (billable s c.in_ok-terms.terms gave c.open_rating-terms.ensures.losses c.if-premiums-terms.false)
 
@@ -62,7 +62,7 @@ returns-clause-says c =
     let s = c.args.file.now in
     let old = c.args.premiums.now in
     let x = c.open_rating-terms.ensures in
-    let gave = sym (ap (answer_is terms_is) c.in_ok-terms.was) ∙ x.terms in
+    let gave = sym (ap (answer_is terms_is) c.in_ok-terms.was) ∙ x.verdict in
     let b = c.put_bills-billed.ensures in
     let bills = ap (λ (l : List group.Losses). bills_of c.in_ok-terms.terms (losses_of l)) c.deref.ensures.0 in
     given-says s c.in_ok-terms.terms gave x.losses old _ c.if-premiums-terms.false (b.summed ∙ ap sum bills)
@@ -73,7 +73,7 @@ returns-clause-demand3 c =
     let s = c.args.file.now in
     let old = c.args.premiums.now in
     let x = c.open_rating-terms.ensures in
-    let gave = sym (ap (answer_is terms_is) c.in_ok-terms.was) ∙ x.terms in
+    let gave = sym (ap (answer_is terms_is) c.in_ok-terms.was) ∙ x.verdict in
     let b = c.put_bills-billed.ensures in
     let bills = ap (λ (l : List group.Losses). bills_of c.in_ok-terms.terms (losses_of l)) c.deref.ensures.0 in
     demanded s c.in_ok-terms.terms gave x.losses old _ c.if-premiums-terms.false (b.summed ∙ ap sum bills)
