@@ -65,8 +65,8 @@ pub record PairAdded (r : AccidentSums) (c d : Claim) (q : AccidentSums) : Type 
 
 -- no claim follows: the last accident ends, and `most` leaves its part of it
 pub record RunEnded (r : AccidentSums) (p : ℕ) (q : ClaimRun) : Type 0 where
-  pub total : q.total ≡ r.total
-  pub limited : q.limited ≡ r.limited + min (r.total - r.start) r.most
+  pub total : q.losses.total ≡ r.total
+  pub limited : q.losses.limited ≡ r.limited + min (r.total - r.start) r.most
   pub next : q.next.at ≡ p
 
 -- the sums are of these claims, by a loss limit: what came since `start` is the sum of the last accident, and what the limit leaves

@@ -12,6 +12,7 @@ use bits::BitPlace;
 use claims::claim::DOLLARS_WIDTH;
 use claims::run::{ClaimRun, limited_to};
 use claims::sums::Sums;
+use group::Losses;
 use words::extract;
 
 // Bits of a word below the first claim on its front and below the second.
@@ -114,8 +115,7 @@ impl AccidentSums {
         let ended = total - self.start;
         let limited = self.limited + ended.min(self.most);
         ClaimRun {
-            total,
-            limited,
+            losses: Losses { total, limited },
             next,
         }
     }

@@ -6,6 +6,6 @@ use Rattle.claims.specs.declared.run.ClaimRun.{ClaimRun}
 
 -- the first k claims from the place `at` on: L, A, and the place after them
 pub record ClaimsAre (s : List ℕ) (at k limit : ℕ) (r : ClaimRun) : Type 0 where
-  pub total : r.total ≡ total_of (claims_from s at k)
-  pub limited : r.limited ≡ limited_of limit (claims_from s at k)
+  pub total : r.losses.total ≡ total_of (claims_from s at k)
+  pub limited : r.losses.limited ≡ limited_of limit (claims_from s at k)
   pub next : r.next.at ≡ past_claims s at k

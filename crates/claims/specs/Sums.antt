@@ -24,8 +24,8 @@ second_low bits = 64 - 2 * (bits + dollars_width)
 
 -- L and A of some claims, and the place after them
 pub record LossesOf (cs : List Claim) (limit : ℕ) (next : BitPlace) (q : ClaimRun) : Type 0 where
-  pub total : q.total ≡ total_of cs
-  pub limited : q.limited ≡ limited_of limit cs
+  pub total : q.losses.total ≡ total_of cs
+  pub limited : q.losses.limited ≡ limited_of limit cs
   pub place : q.next.at ≡ next.at
 
 module _ {S : Type 0} (Are : List Claim → ℕ → S → Type 0) where

@@ -1,7 +1,8 @@
-// The editions of a group file: what question 2 asks a file's first field for.
+// The editions of a group file: what question 2 asks a file's first field for; and a file with the edition by which its claims lie.
 ghost use Rattle.std.specs.Prelude.{◌≡◌};
 ghost use Rattle.plan.specs.Claim.{joined_width};
-ghost use Rattle.claims.specs.Edition.{edition_number, EditionIs};
+ghost use Rattle.plan.specs.Header.{edition_of};
+ghost use Rattle.claims.specs.Edition.{edition_number, EditionIs, LieAs};
 
 use group::Refusal;
 
@@ -42,5 +43,26 @@ impl Edition {
         ensures { joined_width (edition_number result) ≡ joined_width number }
     {
         Edition::try_from(number).unwrap_or(Edition::First)
+    }
+}
+
+// A file and the edition by which its claims lie.
+#[derive(Clone, Copy)]
+pub struct ClaimFile<'a> {
+    pub bytes: &'a [u8],
+    pub edition: Edition,
+    pub ghost lie: { LieAs bytes.now edition },
+}
+
+impl<'a> ClaimFile<'a> {
+    // A file of whatever bytes, by the number of its edition.
+    pub fn new(bytes: &'a [u8], number: u32) -> ClaimFile<'a>
+        requires { number ≡ edition_of bytes.now }
+        ensures { result.bytes.now ≡ bytes.now }
+    {
+        ClaimFile {
+            bytes,
+            edition: Edition::or_first(number),
+        }
     }
 }

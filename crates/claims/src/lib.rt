@@ -5,4 +5,5 @@
 pub mod claim;
 pub mod edition;
 pub mod run;
+pub mod span;
 pub mod sums;

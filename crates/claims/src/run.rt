@@ -4,12 +4,12 @@ ghost use Rattle.std.specs.Prelude.{◌≡◌};
 ghost use Rattle.plan.specs.Losses.{limited_to};
 
 use bits::BitPlace;
+use group::Losses;
 
 // A run of claims as the file has it: L and A, and the place after it.
 #[derive(Clone, Copy)]
 pub struct ClaimRun {
-    pub total: u32,
-    pub limited: u32,
+    pub losses: Losses,
     pub next: BitPlace,
 }
 

@@ -3,12 +3,12 @@
 ghost use Rattle.std.specs.Prelude.{◌≡◌, List, [], ◌∷◌, ℕ};
 ghost use Rattle.plan.specs.Claim.{Claim, joined_width};
 ghost use Rattle.plan.specs.Header.{edition_of};
-ghost use Rattle.claims.specs.Claim.{RunReach};
 ghost use Rattle.claims.specs.Run.{ClaimsAre};
 ghost use Rattle.claims.specs.Sums.{claim_in, first_low, second_low, RoomFor, Added, LossesAre};
 
-use crate::claim::{DOLLARS_WIDTH, reach_of};
+use crate::claim::DOLLARS_WIDTH;
 use crate::run::ClaimRun;
+use crate::span::ClaimSpan;
 use bits::BitPlace;
 
 pub trait Sums: Copy {
@@ -40,15 +40,16 @@ pub trait Sums: Copy {
         ensures { LossesAre Are self next result };
 }
 
-// The claims of an edition, as many as `count`, from a place on. Two claims are taken from one word; an odd one is the last.
-pub fn run_of<S: Sums>(file: &[u8], place: BitPlace, count: u32, limit: u32) -> ClaimRun
-    requires { RunReach place.at count × (joined_width (edition_of file.now) ≡ S.BITS) }
-    ensures { ClaimsAre file.now place.at count limit result }
+// The claims of an edition. Two are taken from one word; an odd one is the last.
+pub fn run_of<S: Sums>(file: &[u8], span: ClaimSpan, limit: u32) -> ClaimRun
+    requires { joined_width (edition_of file.now) ≡ S.BITS }
+    ensures { ClaimsAre file.now span.first.at span.count limit result }
 {
     let width = S::BITS + DOLLARS_WIDTH;
-    let reach = reach_of(place, count);
+    let reach = span.last_byte();
+    let count = span.count;
     let mut sums = S::none(limit);
-    let mut next = place;
+    let mut next = span.first;
     for _ in 0..count / 2 {
         let pair = next.take_front(file, 2 * width, reach);
         sums = sums.add_pair(pair.value);

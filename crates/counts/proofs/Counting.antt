@@ -50,15 +50,15 @@ module _ {s : List ℕ} {k p claims : ℕ} {opened : Bool} (w : Counting s k p c
 
   -- one count more, as the code has it: taken at p, the first of as many claims looked at, and the place after them
   pub counting_more : (edition : Edition) {t : RiskHead} {q : ℕ} → HeadIs s p t → LieAs s edition
-      → q ≡ t.next.at + claim_width (edition_number edition) * t.count → Counting s (k + 1) q (claims + t.count) (opened && t.opened)
+      → q ≡ t.claims.first.at + claim_width (edition_number edition) * t.claims.count → Counting s (k + 1) q (claims + t.claims.count) (opened && t.opened)
   counting_more edition {t} {q} x same e =
       let end : q ≡ past_risk s p =
       e
-      ∙ ap (λ (w : ℕ). t.next.at + w * t.count) (width-like s edition same)
-      ∙ ap₂ (λ (a n : ℕ). a + claim_width (edition_of s) * n) x.next x.is
+      ∙ ap (λ (w : ℕ). t.claims.first.at + w * t.claims.count) (width-like s edition same)
+      ∙ ap₂ (λ (a n : ℕ). a + claim_width (edition_of s) * n) x.first x.count
       ∙ sym (past-claims s (first_claim p) (count_at s p)) in
       record {
         place = end ∙ ap (past_risk s) w.place ∙ sym (past-risks-more s header_bits k);
-        claims_are = ap₂ ◌+◌ w.claims_are (x.is ∙ ap (count_at s) w.place) ∙ sym (counts-sum s k);
+        claims_are = ap₂ ◌+◌ w.claims_are (x.count ∙ ap (count_at s) w.place) ∙ sym (counts-sum s k);
         opened_is = ap₂ ◌&&◌ w.opened_is (x.opened ∙ ap (λ (a : ℕ). opens (claims_at s a)) w.place) ∙ sym (open-sum s k);
       }

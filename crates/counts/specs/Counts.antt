@@ -4,20 +4,14 @@ use Rattle.plan.specs.Arithmetic.{sum}
 use Rattle.plan.specs.Header.{header_bits}
 use Rattle.plan.specs.Risk.{count_at, first_claim, claims_at, counts_from, risks_from, past_risks}
 use Rattle.plan.specs.Accidents.{opens, all_open}
-use Rattle.bits.specs.declared.Taken.{Taken}
 use Rattle.counts.specs.declared.RiskHead.{RiskHead}
 use Rattle.counts.specs.declared.Counted.{Counted}
 
--- the count of the risk that begins at the place `at`, and the place of its first claim
-pub record CountIs (s : List ℕ) (at : ℕ) (r : Taken ℕ) : Type 0 where
-  pub is : r.value ≡ count_at s at
-  pub next : r.next.at ≡ first_claim at
-
--- the same, and whether that claim opens an accident
+-- the claims of the risk that begins at the place `at`: how many they are, the place of the first, and whether it opens an accident
 pub record HeadIs (s : List ℕ) (at : ℕ) (r : RiskHead) : Type 0 where
-  pub is : r.count ≡ count_at s at
+  pub count : r.claims.count ≡ count_at s at
+  pub first : r.claims.first.at ≡ first_claim at
   pub opened : r.opened ≡ opens (claims_at s at)
-  pub next : r.next.at ≡ first_claim at
 
 -- by the counts of the first n risks: where they end, how many claims they have, and whether each one's first opens an accident
 pub record CountedIs (s : List ℕ) (n : ℕ) (r : Counted) : Type 0 where

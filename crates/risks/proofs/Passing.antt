@@ -21,8 +21,8 @@ use Rattle.risks.specs.declared.SumsSoFar.{SumsSoFar}
 -- what a risk's numbers are at most
 pub record RiskMost (r : Risk) : Type 0 where
   pub count : r.count ≤ most_claims
-  pub total : r.total ≤ most_risk_losses
-  pub limited : r.limited ≤ r.total
+  pub total : r.losses.total ≤ most_risk_losses
+  pub limited : r.losses.limited ≤ r.losses.total
 
 pub risk-most : {s : List ℕ} {p limit : ℕ} {r : Risk} → RiskIs s p limit r → RiskMost r
 risk-most {s} {p} {limit} {r} x = record {
@@ -50,13 +50,13 @@ module _ {s : List ℕ} {limit k : ℕ} {r : SumsSoFar} (w : SumsAre s limit k r
 
   -- one risk more, as the code has it: taken where the first k end, and added to the sums
   pub risk-passed : {x : Risk} {q : SumsSoFar} → RiskIs s r.next.at limit x → q.risks ≡ k + 1
-      → q.claims ≡ r.claims + x.count → q.opened ≡ (r.opened && x.opened) → q.total ≡ r.total + x.total
-      → q.limited ≡ r.limited + x.limited → q.next ≡ x.next
-      → RiskPassed s limit k (record { total = x.total; limited = x.limited; sums = q })
+      → q.claims ≡ r.claims + x.count → q.opened ≡ (r.opened && x.opened) → q.total ≡ r.total + x.losses.total
+      → q.limited ≡ r.limited + x.losses.limited → q.next ≡ x.next
+      → RiskPassed s limit k (record { losses = x.losses; sums = q })
   risk-passed {x} {q} i n c o l a p =
-      let own-total : x.total ≡ total_of (claims_at s (past_risks s header_bits k)) =
+      let own-total : x.losses.total ≡ total_of (claims_at s (past_risks s header_bits k)) =
       i.total ∙ ap (λ (p : ℕ). total_of (claims_at s p)) w.next in
-      let own-limited : x.limited ≡ limited_of limit (claims_at s (past_risks s header_bits k)) =
+      let own-limited : x.losses.limited ≡ limited_of limit (claims_at s (past_risks s header_bits k)) =
       i.limited ∙ ap (λ (p : ℕ). limited_of limit (claims_at s p)) w.next in
       record {
         total = own-total;

@@ -9,6 +9,6 @@ use Rattle.risks.specs.declared.Risk.{Risk}
 pub record RiskIs (s : List ℕ) (at limit : ℕ) (r : Risk) : Type 0 where
   pub count : r.count ≡ count_at s at
   pub opened : r.opened ≡ opens (claims_at s at)
-  pub total : r.total ≡ total_of (claims_at s at)
-  pub limited : r.limited ≡ limited_of limit (claims_at s at)
+  pub total : r.losses.total ≡ total_of (claims_at s at)
+  pub limited : r.losses.limited ≡ limited_of limit (claims_at s at)
   pub next : r.next.at ≡ past_risk s at

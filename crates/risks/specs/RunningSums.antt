@@ -26,6 +26,6 @@ pub record NextRisk (s : List ℕ) (limit : ℕ) (r : SumsSoFar) : Type 0 where
 
 -- risk k + 1 passed: its own L and A, and the sums over the first k + 1
 pub record RiskPassed (s : List ℕ) (limit k : ℕ) (r : PassedRisk) : Type 0 where
-  pub total : r.total ≡ total_of (claims_at s (past_risks s header_bits k))
-  pub limited : r.limited ≡ limited_of limit (claims_at s (past_risks s header_bits k))
+  pub total : r.losses.total ≡ total_of (claims_at s (past_risks s header_bits k))
+  pub limited : r.losses.limited ≡ limited_of limit (claims_at s (past_risks s header_bits k))
   pub sums : SumsAre s limit (k + 1) r.sums

@@ -1,19 +1,19 @@
 // A risk as the file has it, its claims by the sums of their edition, and a risk passed: the running sums with it.
 #![tactic(auto)]
 
-ghost use Rattle.std.specs.Prelude.{◌≡◌, ◌+◌, ◌≤◌};
+ghost use Rattle.std.specs.Prelude.{◌+◌, ◌≤◌};
 ghost use Rattle.plan.specs.Risk.{count_width};
 ghost use Rattle.plan.specs.Sizes.{most_file_bits};
-ghost use Rattle.claims.specs.Claim.{RunReach};
-ghost use Rattle.claims.specs.Edition.{LieAs};
 ghost use Rattle.claims.specs.Run.{ClaimsAre};
 ghost use Rattle.risks.specs.Risk.{RiskIs};
 ghost use Rattle.risks.specs.RunningSums.{NextRisk, RiskPassed};
 
 use bits::BitPlace;
-use claims::edition::Edition;
+use claims::edition::{ClaimFile, Edition};
 use claims::run::ClaimRun;
+use claims::span::ClaimSpan;
 use counts::head_at;
+use group::Losses;
 use joined::joined_claims;
 use singles::single_claims;
 
@@ -22,8 +22,7 @@ use singles::single_claims;
 pub struct Risk {
     pub count: u32,
     pub opened: bool,
-    pub total: u32,
-    pub limited: u32,
+    pub losses: Losses,
     pub next: BitPlace,
 }
 
@@ -42,59 +41,52 @@ pub struct SumsSoFar {
 // A risk passed: its L and A, and the running sums with it.
 #[derive(Clone, Copy)]
 pub struct PassedRisk {
-    pub total: u32,
-    pub limited: u32,
+    pub losses: Losses,
     pub sums: SumsSoFar,
 }
 
-// The claims, as many as `count`, from a place on, by the sums of their edition.
-pub fn claims_at(file: &[u8], place: BitPlace, count: u32, edition: Edition, limit: u32) -> ClaimRun
-    requires { RunReach place.at count × LieAs file.now edition }
-    ensures { ClaimsAre file.now place.at count limit result }
+// Claims by the sums of their edition.
+pub fn claims_at(file: &ClaimFile<'_>, span: ClaimSpan, limit: u32) -> ClaimRun
+    ensures { ClaimsAre file.now.bytes.now span.first.at span.count limit result }
 {
-    match edition {
-        Edition::First => single_claims(file, place, count, limit),
-        Edition::Second => joined_claims(file, place, count, limit),
+    match file.edition {
+        Edition::First => single_claims(file.bytes, span, limit),
+        Edition::Second => joined_claims(file.bytes, span, limit),
     }
 }
 
 // The risk that begins at a place.
-pub fn risk_at(file: &[u8], place: BitPlace, edition: Edition, limit: u32) -> Risk
-    requires { (place.at + count_width ≤ most_file_bits) × LieAs file.now edition }
-    ensures { RiskIs file.now place.at limit result }
+pub fn risk_at(file: &ClaimFile<'_>, place: BitPlace, limit: u32) -> Risk
+    requires { place.at + count_width ≤ most_file_bits }
+    ensures { RiskIs file.now.bytes.now place.at limit result }
 {
-    let head = head_at(file, place, edition);
-    let first = head.next;
-    let count = head.count;
-    let run = claims_at(file, first, count, edition, limit);
-    let next = run.next;
+    let head = head_at(file, place);
+    let run = claims_at(file, head.claims, limit);
     Risk {
-        count,
+        count: head.claims.count,
         opened: head.opened,
-        total: run.total,
-        limited: run.limited,
-        next,
+        losses: run.losses,
+        next: run.next,
     }
 }
 
 // One risk more, the one that begins where the risks passed so far end: of the sums over the first k risks and the place of risk
 // k + 1 it makes the sums over the first k + 1 and the next place. No risk before it is gone over again.
-pub fn pass_risk(file: &[u8], sums: SumsSoFar, edition: Edition, limit: u32) -> PassedRisk
-    requires { NextRisk file.now limit sums × LieAs file.now edition }
-    ensures { RiskPassed file.now limit sums.risks result }
+pub fn pass_risk(file: &ClaimFile<'_>, sums: SumsSoFar, limit: u32) -> PassedRisk
+    requires { NextRisk file.now.bytes.now limit sums }
+    ensures { RiskPassed file.now.bytes.now limit sums.risks result }
 {
     let place = sums.next;
-    let risk = risk_at(file, place, edition, limit);
+    let risk = risk_at(file, place, limit);
     let count = risk.count;
     let risks = sums.risks + 1;
     let claims = sums.claims + count;
     let opened = sums.opened & risk.opened;
-    let total = sums.total + risk.total as u64;
-    let limited = sums.limited + risk.limited as u64;
+    let total = sums.total + u64::from(risk.losses.total);
+    let limited = sums.limited + u64::from(risk.losses.limited);
     let next = risk.next;
     PassedRisk {
-        total: risk.total,
-        limited: risk.limited,
+        losses: risk.losses,
         sums: SumsSoFar {
             risks,
             claims,

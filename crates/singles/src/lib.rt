@@ -4,14 +4,16 @@
 ghost use Rattle.std.specs.Prelude.{◌≡◌};
 ghost use Rattle.plan.specs.Claim.{joined_width};
 ghost use Rattle.plan.specs.Header.{edition_of};
-ghost use Rattle.claims.specs.Claim.{RunReach, front_dollars};
+ghost use Rattle.claims.specs.Claim.{front_dollars};
 ghost use Rattle.claims.specs.Run.{ClaimsAre};
 ghost use Rattle.singles.specs.Singles.{ClaimRoom, ClaimAdded, ClaimsSummed};
 
 use bits::BitPlace;
 use claims::claim::{DOLLARS_WIDTH, LARGEST_CLAIM, dollars_ahead, limited_ahead};
 use claims::run::{ClaimRun, limited_to};
+use claims::span::ClaimSpan;
 use claims::sums::{Sums, run_of};
+use group::Losses;
 
 // The sums of some claims of a risk, each an accident of its own: L and A of them. `most` is what the limit leaves of the largest claim.
 #[derive(Clone, Copy)]
@@ -64,17 +66,19 @@ impl Sums for ClaimSums {
 
     fn ended(self, next: BitPlace) -> ClaimRun {
         ClaimRun {
-            total: self.total,
-            limited: self.limited,
+            losses: Losses {
+                total: self.total,
+                limited: self.limited,
+            },
             next,
         }
     }
 }
 
-// The claims without bits, as many as `count`, from a place on.
-pub fn single_claims(file: &[u8], place: BitPlace, count: u32, limit: u32) -> ClaimRun
-    requires { RunReach place.at count × (joined_width (edition_of file.now) ≡ 0) }
-    ensures { ClaimsAre file.now place.at count limit result }
+// Claims without bits.
+pub fn single_claims(file: &[u8], span: ClaimSpan, limit: u32) -> ClaimRun
+    requires { joined_width (edition_of file.now) ≡ 0 }
+    ensures { ClaimsAre file.now span.first.at span.count limit result }
 {
-    run_of::<ClaimSums>(file, place, count, limit)
+    run_of::<ClaimSums>(file, span, limit)
 }

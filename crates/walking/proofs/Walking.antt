@@ -23,7 +23,7 @@ kept-length s limit {k} xs e = sym (length-map xs _) ∙ ap length e ∙ length-
 
 -- with a risk passed its losses are kept too
 pub kept_more : {s : List ℕ} {limit k : ℕ} (xs : List Losses) {ys : List Losses} {r : PassedRisk} → losses_of xs ≡ losses_from s limit header_bits k
-    → RiskPassed s limit k r → ys ≡ xs ++ record { total = r.total; limited = r.limited } ∷ []
+    → RiskPassed s limit k r → ys ≡ xs ++ r.losses ∷ []
     → losses_of ys ≡ losses_from s limit header_bits (k + 1)
 kept_more {s} {limit} {k} xs {ys} {r} e x is =
     ap losses_of is

@@ -6,13 +6,12 @@
 ghost use Rattle.std.specs.Prelude.{◌≡◌, ◌≤◌};
 ghost use Rattle.plan.specs.Header.{header_bits};
 ghost use Rattle.plan.specs.Sizes.{most_risks};
-ghost use Rattle.claims.specs.Edition.{LieAs};
 ghost use Rattle.walking.specs.Walks.{WalkIs};
 
 use arrayvec::ArrayVec;
 use bits::BitPlace;
-use claims::edition::Edition;
-use group::{GroupLosses, Losses};
+use claims::edition::ClaimFile;
+use group::GroupLosses;
 use risks::{SumsSoFar, pass_risk};
 
 // What the walk gives: the place where the last field ends, how many claims there are, whether each risk's first claim opens an
@@ -26,9 +25,9 @@ pub struct Walked {
 }
 
 // The walk over so many risks, one after another, from a place on, which is the header's end.
-pub fn walk(file: &[u8], place: BitPlace, risks: u32, edition: Edition, limit: u32) -> Walked
-    requires { (risks ≤ most_risks) × (place.at ≡ header_bits) × LieAs file.now edition }
-    ensures { WalkIs file.now risks limit result }
+pub fn walk(file: &ClaimFile<'_>, place: BitPlace, risks: u32, limit: u32) -> Walked
+    requires { (risks ≤ most_risks) × (place.at ≡ header_bits) }
+    ensures { WalkIs file.now.bytes.now risks limit result }
 {
     let mut of_risks = ArrayVec::new();
     let mut sums = SumsSoFar {
@@ -40,11 +39,8 @@ pub fn walk(file: &[u8], place: BitPlace, risks: u32, edition: Edition, limit: u
         next: place,
     };
     for _ in 0..risks {
-        let risk = pass_risk(file, sums, edition, limit);
-        of_risks.push(Losses {
-            total: risk.total,
-            limited: risk.limited,
-        });
+        let risk = pass_risk(file, sums, limit);
+        of_risks.push(risk.losses);
         sums = risk.sums;
     }
     Walked {

@@ -5,4 +5,4 @@ use Rattle.counts.proofs.Counting.{Counting}
 use Rattle.counts.proofs.count_claims.Given as goal
 
 abbrev pub invariant-loop : goal.invariant-loop
-invariant-loop l = (l.counter ≤ l.risks) × Counting l.file l.counter l.next.at l.claims l.opened
+invariant-loop l = (l.counter ≤ l.risks) × Counting l.file.bytes.now l.counter l.next.at l.claims l.opened

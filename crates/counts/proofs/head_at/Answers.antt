@@ -20,10 +20,10 @@ count-is s at ahead e within = e ∙ front-is ahead count_width within
 pub returns : goal.returns
 returns c =
     let a = c.args in
-    let s = a.file.now in
+    let s = a.file.now.bytes.now in
     let first = first_claim a.place.at in
     let w = c.joined_width-width.result in
-    let same : w ≡ joined_width (edition_of s) = c.joined_width-width.ensures ∙ c.requires.1 in
+    let same : w ≡ joined_width (edition_of s) = c.joined_width-width.ensures ∙ a.file.now.lie in
     let is = count-is s a.place.at c.take_front-front.ensures.ahead c.highest-count.ensures (lit≤ tt) in
     let bit : c.extract-bit.result ≡ joined (claim_at s first) =
     c.extract-bit.ensures
@@ -32,7 +32,7 @@ returns c =
     ∙ ap₂ (field s) (omega (arith, first-claim a.place.at)) same
     ∙ sym (joined_at s first) in
     record {
-      is = is;
+      count = is;
+      first = sym (first-claim a.place.at);
       opened = joined-opens s first (count_at s a.place.at) is bit;
-      next = sym (first-claim a.place.at);
     }

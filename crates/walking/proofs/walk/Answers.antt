@@ -10,12 +10,12 @@ use Rattle.walking.proofs.walk.Goals as goal
 
 pub pass_risk-risk-requires : goal.pass_risk-risk-requires
 pass_risk-risk-requires c =
-    (next-risk c.loop.invariant.sums (omega (arith, c.loop-test.true, c.requires.0)), c.requires.2)
+    next-risk c.loop.invariant.sums (omega (arith, c.loop-test.true, c.requires.0))
 
 pub push-requires : goal.push-requires
 push-requires c =
     let few : c.loop.counter < most_risks = omega (arith, c.loop-test.true, c.requires.0) in
-    (lit< tt, omega (arith, few, kept-length c.args.file.now c.args.limit _ c.loop.invariant.kept))
+    (lit< tt, omega (arith, few, kept-length c.args.file.now.bytes.now c.args.limit _ c.loop.invariant.kept))
 
 pub loop-preserved : goal.loop-preserved
 loop-preserved c =
@@ -24,7 +24,7 @@ loop-preserved c =
 
 pub returns : goal.returns
 returns c =
-    let s = c.args.file.now in
+    let s = c.args.file.now.bytes.now in
     let all : c.loop.counter ≡ c.args.risks = omega (arith, c.loop-test.false, c.loop.auto.counter-end) in
     let w = subst (λ (k : ℕ). SumsAre s c.args.limit k c.loop.sums) all c.loop.invariant.sums in
     let kept = c.loop.invariant.kept ∙ ap (losses_from s c.args.limit header_bits) all in

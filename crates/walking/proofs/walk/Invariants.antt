@@ -8,6 +8,6 @@ use Rattle.walking.proofs.walk.Given as goal
 
 abbrev pub invariant-loop : goal.invariant-loop
 invariant-loop l = record {
-  sums : SumsAre l.file l.limit l.counter l.sums;
-  kept : losses_of l.of_risks.items ≡ losses_from l.file l.limit header_bits l.counter;
+  sums : SumsAre l.file.bytes.now l.limit l.counter l.sums;
+  kept : losses_of l.of_risks.items ≡ losses_from l.file.bytes.now l.limit header_bits l.counter;
 }

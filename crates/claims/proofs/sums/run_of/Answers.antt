@@ -23,27 +23,27 @@ pair-within n k h = omega arith
 pub take_front-pair-requires : goal.take_front-pair-requires
 take_front-pair-requires g c =
     let l = c.loop in
-    let most = one-bit c.args.file.now c.requires.1 in
+    let most = one-bit c.args.file.now c.requires in
     front-reach c.args.file.now {i = 2 * l.counter} (2 * (c.BITS-width.result + 20)) l.invariant.place
-    (omega (arith, pair-within c.args.count l.counter c.loop-test.true)) (omega (arith, most, c.BITS-width.ensures))
-    c.reach_of-reach.ensures
+    (omega (arith, pair-within c.args.span.count l.counter c.loop-test.true)) (omega (arith, most, c.BITS-width.ensures))
+    c.last_byte-reach.ensures
 
 pub add_pair-sums-requires : goal.add_pair-sums-requires
 add_pair-sums-requires g c =
     let s = c.args.file.now in
-    let at = c.args.place.at in
+    let at = c.args.span.first.at in
     let k : ℕ = 2 * c.loop.counter in
-    let few = pair-within c.args.count c.loop.counter c.loop-test.true in
-    (claims_from s at k, c.args.limit, omega (arith, few, c.requires.0.few, length-claims s at k), c.loop.invariant.are)
+    let few = pair-within c.args.span.count c.loop.counter c.loop-test.true in
+    (claims_from s at k, c.args.limit, omega (arith, few, c.args.span.reach.few, length-claims s at k), c.loop.invariant.are)
 
 pub loop-preserved : goal.loop-preserved
 loop-preserved g c =
     let s = c.args.file.now in
-    let at = c.args.place.at in
-    let e = c.requires.1 in
+    let at = c.args.span.first.at in
+    let e = c.requires in
     let l = c.loop in
     let k : ℕ = 2 * l.counter in
-    let few = pair-within c.args.count l.counter c.loop-test.true in
+    let few = pair-within c.args.span.count l.counter c.loop-test.true in
     let x = c.take_front-pair.ensures in
     let next : k + 2 ≡ 2 * (l.counter + 1) = omega arith in
     let both = two-there s e (one-bit s e) at k l.invariant.place x.ahead (omega (arith, c.BITS-width.ensures)) in
@@ -60,7 +60,7 @@ loop-preserved g c =
       are =
           subst (λ (cs : List Claim). g.S.Sums.Are cs c.args.limit c.add_pair-sums.result)
           (both ∙ ap (claims_from s at) next)
-          (c.add_pair-sums.ensures (claims_from s at k) c.args.limit (omega (arith, few, c.requires.0.few, length-claims s at k)) l.invariant.are);
+          (c.add_pair-sums.ensures (claims_from s at k) c.args.limit (omega (arith, few, c.args.span.reach.few, length-claims s at k)) l.invariant.are);
     }
 
 -- ---- behind the pairs
@@ -73,20 +73,20 @@ run-is x e = record { total = x.total; limited = x.limited; next = x.place ∙ e
 pub ended-requires : goal.ended-requires
 ended-requires g c =
     let s = c.args.file.now in
-    let at = c.args.place.at in
+    let at = c.args.span.first.at in
     let k : ℕ = 2 * c.loop.counter in
-    let few : k ≤ c.args.count = omega (arith, c.loop.invariant.within) in
-    (claims_from s at k, c.args.limit, omega (arith, few, c.requires.0.few, length-claims s at k), c.loop.invariant.are)
+    let few : k ≤ c.args.span.count = omega (arith, c.loop.invariant.within) in
+    (claims_from s at k, c.args.limit, omega (arith, few, c.args.span.reach.few, length-claims s at k), c.loop.invariant.are)
 
 pub returns-then-count-eq0 : goal.returns-then-count-eq0
 returns-then-count-eq0 g c =
     let s = c.args.file.now in
-    let at = c.args.place.at in
+    let at = c.args.span.first.at in
     let l = c.loop in
     let k : ℕ = 2 * l.counter in
-    let all : k ≡ c.args.count = omega (arith, l.invariant.within, c.loop-test.false, c.if-count-eq0.true) in
+    let all : k ≡ c.args.span.count = omega (arith, l.invariant.within, c.loop-test.false, c.if-count-eq0.true) in
     subst (λ (n : ℕ). ClaimsAre s at n c.args.limit c.ended.result) all
-    (run-is (c.ended.ensures (claims_from s at k) c.args.limit (omega (arith, all, c.requires.0.few, length-claims s at k)) l.invariant.are)
+    (run-is (c.ended.ensures (claims_from s at k) c.args.limit (omega (arith, all, c.args.span.reach.few, length-claims s at k)) l.invariant.are)
     l.invariant.place)
 
 -- ---- with an odd claim
@@ -94,47 +94,47 @@ returns-then-count-eq0 g c =
 pub take_front-last-requires : goal.take_front-last-requires
 take_front-last-requires g c =
     let l = c.loop in
-    let most = one-bit c.args.file.now c.requires.1 in
+    let most = one-bit c.args.file.now c.requires in
     front-reach c.args.file.now {i = 2 * l.counter} (c.BITS-width.result + 20) l.invariant.place
-    (omega (arith, l.invariant.within)) (omega (arith, most, c.BITS-width.ensures)) c.reach_of-reach.ensures
+    (omega (arith, l.invariant.within)) (omega (arith, most, c.BITS-width.ensures)) c.last_byte-reach.ensures
 
 pub add_claim-requires : goal.add_claim-requires
 add_claim-requires g c =
     let s = c.args.file.now in
-    let at = c.args.place.at in
+    let at = c.args.span.first.at in
     let k : ℕ = 2 * c.loop.counter in
-    let few : k + 1 ≤ c.args.count = omega (arith, c.loop.invariant.within, c.if-count-eq0.false) in
-    (claims_from s at k, c.args.limit, omega (arith, few, c.requires.0.few, length-claims s at k), c.loop.invariant.are)
+    let few : k + 1 ≤ c.args.span.count = omega (arith, c.loop.invariant.within, c.if-count-eq0.false) in
+    (claims_from s at k, c.args.limit, omega (arith, few, c.args.span.reach.few, length-claims s at k), c.loop.invariant.are)
 
 pub ended-requires-2 : goal.ended-requires-2
 ended-requires-2 g c =
     let s = c.args.file.now in
-    let at = c.args.place.at in
-    let e = c.requires.1 in
+    let at = c.args.span.first.at in
+    let e = c.requires in
     let k : ℕ = 2 * c.loop.counter in
-    let few : k + 1 ≤ c.args.count = omega (arith, c.loop.invariant.within, c.if-count-eq0.false) in
+    let few : k + 1 ≤ c.args.span.count = omega (arith, c.loop.invariant.within, c.if-count-eq0.false) in
     let last = one-there s e (one-bit s e) at k c.loop.invariant.place c.take_front-last.ensures.ahead (omega (arith, c.BITS-width.ensures)) in (
       claims_from s at (k + 1),
       c.args.limit,
-      omega (arith, few, c.requires.0.few, length-claims s at (k + 1)),
+      omega (arith, few, c.args.span.reach.few, length-claims s at (k + 1)),
       subst (λ (cs : List Claim). g.S.Sums.Are cs c.args.limit c.add_claim.result) last
-          (c.add_claim.ensures (claims_from s at k) c.args.limit (omega (arith, few, c.requires.0.few, length-claims s at k))
+          (c.add_claim.ensures (claims_from s at k) c.args.limit (omega (arith, few, c.args.span.reach.few, length-claims s at k))
           c.loop.invariant.are),
     )
 
 pub returns : goal.returns
 returns g c =
     let s = c.args.file.now in
-    let at = c.args.place.at in
-    let e = c.requires.1 in
+    let at = c.args.span.first.at in
+    let e = c.requires in
     let l = c.loop in
     let k : ℕ = 2 * l.counter in
-    let all : k + 1 ≡ c.args.count = omega (arith, l.invariant.within, c.loop-test.false, c.if-count-eq0.false) in
+    let all : k + 1 ≡ c.args.span.count = omega (arith, l.invariant.within, c.loop-test.false, c.if-count-eq0.false) in
     let x = c.take_front-last.ensures in
     let last = one-there s e (one-bit s e) at k l.invariant.place x.ahead (omega (arith, c.BITS-width.ensures)) in
     let are =
     subst (λ (cs : List Claim). g.S.Sums.Are cs c.args.limit c.add_claim.result) last
-    (c.add_claim.ensures (claims_from s at k) c.args.limit (omega (arith, all, c.requires.0.few, length-claims s at k)) l.invariant.are) in
+    (c.add_claim.ensures (claims_from s at k) c.args.limit (omega (arith, all, c.args.span.reach.few, length-claims s at k)) l.invariant.are) in
     let place : c.take_front-last.result.next.at ≡ past_claims s at (k + 1) =
     omega (
       arith,
@@ -146,5 +146,5 @@ returns g c =
     ) in
     subst (λ (n : ℕ). ClaimsAre s at n c.args.limit c.ended-2.result) all
     (run-is
-    (c.ended-2.ensures (claims_from s at (k + 1)) c.args.limit (omega (arith, all, c.requires.0.few, length-claims s at (k + 1))) are)
+    (c.ended-2.ensures (claims_from s at (k + 1)) c.args.limit (omega (arith, all, c.args.span.reach.few, length-claims s at (k + 1))) are)
     place)

@@ -5,7 +5,7 @@ use Rattle.claims.proofs.sums.run_of.Given as goal
 
 abbrev pub invariant-loop : goal.invariant-loop
 invariant-loop g l = record {
-  within : l.counter ≤ l.fn.count / 2;
-  place : l.next.at ≡ past_claims l.fn.file l.fn.place.at (2 * l.counter);
-  are : g.S.Sums.Are (claims_from l.fn.file l.fn.place.at (2 * l.counter)) l.fn.limit l.sums;
+  within : l.counter ≤ l.fn.span.count / 2;
+  place : l.next.at ≡ past_claims l.fn.file l.fn.span.first.at (2 * l.counter);
+  are : g.S.Sums.Are (claims_from l.fn.file l.fn.span.first.at (2 * l.counter)) l.fn.limit l.sums;
 }

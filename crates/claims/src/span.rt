@@ -1,0 +1,34 @@
+// Some claims as they lie one after another: where the first begins and how many they are.
+ghost use Rattle.std.specs.Prelude.{◌≡◌, ◌+◌, ◌*◌};
+ghost use Rattle.plan.specs.Claim.{claim_width};
+ghost use Rattle.claims.specs.Claim.{ClaimReach, RunReach};
+ghost use Rattle.claims.specs.Edition.{edition_number};
+
+use crate::claim::{MOST_CLAIM_WIDTH, claim_width};
+use crate::edition::Edition;
+use bits::BitPlace;
+
+// The place of the first claim, and as many as a risk has at most, from where one of a file can begin.
+#[derive(Clone, Copy)]
+pub struct ClaimSpan {
+    pub first: BitPlace,
+    pub count: u32,
+    pub ghost reach: { RunReach first.at count },
+}
+
+impl ClaimSpan {
+    // The place after the claims, where they are of an edition: it is known by their number alone.
+    pub fn end(self, edition: Edition) -> BitPlace
+        ensures { result.at ≡ self.first.at + claim_width (edition_number edition) * self.count }
+    {
+        let at = self.first.at + claim_width(edition) as usize * self.count as usize;
+        BitPlace { at }
+    }
+
+    // A byte that no word of the claims, of either edition, ends after: one test of the file's length will do for all of them.
+    pub fn last_byte(self) -> usize
+        ensures { ClaimReach self.first.at self.count result }
+    {
+        (self.first.at + MOST_CLAIM_WIDTH as usize * self.count as usize) / 8 + 8
+    }
+}
