@@ -9,7 +9,7 @@ ghost use Rattle.header.specs.Header.{FileHeaderIs};
 ghost use Rattle.groupfile.specs.Opening.{OpenedIs, OutlineIs};
 
 use bits::BitPlace;
-use claims::edition::Edition;
+use claims::edition::{ClaimFile, Edition};
 use counts::count_claims;
 use group::{GroupLosses, Header, Refusal};
 use header::{FileHeader, header_of, header_verdict};
@@ -19,7 +19,8 @@ use walking::walk;
 pub const HEADER_BYTES: usize = 16;
 
 // The risks as they lie in a file, for a call that goes over their claims: the number of the edition as the file has it, which may be
-// none's, the place of the first, and the number of all claims. A file opened with its losses has them too, for a call that goes over the claims again.
+// none's, the place of the first, and the number of all claims. A file opened with its losses has them too, for a call that goes over
+// the claims again.
 #[derive(Clone, Copy)]
 pub struct RiskRun {
     pub edition: u32,
@@ -51,7 +52,7 @@ fn end_verdict(file: &[u8], end: BitPlace, opened: bool) -> Result<(), Refusal>
     requires { (end.at ≡ end_of file.now) × (opened ≡ all_open (risks_of file.now)) }
     ensures { verdict_is result ≡ first_no (end_questions file.now) }
 {
-    if file.len() != (end.at + 7) / 8 {
+    if file.len() != end.at.div_ceil(8) {
         return Err(Refusal::Length);
     }
     let width = 8 * file.len() - end.at;
@@ -89,8 +90,8 @@ pub fn open(file: &[u8]) -> Opened<()>
     let header = header_of(file);
     let values = header.values;
     let first = header.next;
-    let edition = Edition::or_first(header.edition);
-    let walked = walk(file, first, header.risks, edition, values.loss_limit);
+    let claim_file = ClaimFile::new(file, header.edition);
+    let walked = walk(&claim_file, first, header.risks, values.loss_limit);
     Opened {
         verdict: file_verdict(file, header, walked.end, walked.opened),
         header: values,
@@ -110,9 +111,9 @@ pub fn open_outline(file: &[u8]) -> Outline
 {
     let header = header_of(file);
     let first = header.next;
-    let edition = Edition::or_first(header.edition);
+    let claim_file = ClaimFile::new(file, header.edition);
     let risks = header.risks;
-    let counted = count_claims(file, first, risks, edition);
+    let counted = count_claims(&claim_file, first, risks);
     Outline {
         verdict: file_verdict(file, header, counted.end, counted.opened),
         header: header.values,

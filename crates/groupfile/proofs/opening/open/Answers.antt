@@ -1,8 +1,7 @@
 -- The walk is that of the file's own n and loss limit, from the header's end on: after the last risk its running sums are SL and
 -- SA, and it is at the file's end.
-use Rattle.std.proofs.Common.{ap, ◌∙◌, subst₂, ℕ, arith}
+use Rattle.std.proofs.Common.{ap, subst, subst₂, List, ℕ, arith}
 use Rattle.plan.specs.Header as plan
-use Rattle.plan.specs.Claim.{joined_width}
 use Rattle.plan.proofs.FileSizes.{risks-le}
 use Rattle.risks.proofs.RunningSums.{total-is-all, limited-is-all}
 use Rattle.walking.specs.Walks.{WalkIs}
@@ -11,15 +10,15 @@ use Rattle.groupfile.proofs.opening.open.Goals as goal
 pub walk-walked-requires : goal.walk-walked-requires
 walk-walked-requires c =
     let e = c.header_of-header.ensures in
-    (omega (arith, e.risks, risks-le c.args.file.now), e.next, c.or_first-edition.ensures ∙ ap joined_width e.edition)
+    (omega (arith, e.risks, risks-le c.args.file.now), e.next)
 
 pub returns : goal.returns
 returns c =
     let s = c.args.file.now in
     let e = c.header_of-header.ensures in
-    let l =
-    subst₂ (λ (n l : ℕ). WalkIs s n l c.walk-walked.result) e.risks (ap (λ (x : plan.Header). x.loss_limit) e.values)
-    c.walk-walked.ensures in
+    let walk = subst (λ (t : List ℕ). WalkIs t c.header_of-header.result.risks c.header_of-header.result.values.loss_limit c.walk-walked.result)
+    c.new-claim_file.ensures c.walk-walked.ensures in
+    let l = subst₂ (λ (n l : ℕ). WalkIs s n l c.walk-walked.result) e.risks (ap (λ (x : plan.Header). x.loss_limit) e.values) walk in
     record {
       verdict = c.file_verdict.ensures;
       header = e.values;

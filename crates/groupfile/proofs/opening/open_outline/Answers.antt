@@ -1,11 +1,9 @@
 -- The counts are those of the file's own n, from the header's end on.
-use mathlib.Core.Path.{ap, ◌∙◌}
 use native.Mathlib.Omega.{arith}
-use Rattle.plan.specs.Claim.{joined_width}
 use Rattle.plan.proofs.FileSizes.{risks-le}
 use Rattle.groupfile.proofs.opening.open_outline.Goals as goal
 
 pub count_claims-counted-requires : goal.count_claims-counted-requires
 count_claims-counted-requires c =
     let e = c.header_of-header.ensures in
-    (omega (arith, e.risks, risks-le c.args.file.now), e.next, c.or_first-edition.ensures ∙ ap joined_width e.edition)
+    (omega (arith, e.risks, risks-le c.args.file.now), e.next)
