@@ -75,7 +75,7 @@ impl BitPlace {
         let mut left = width;
         while 0 < left {
             let n = count_in_byte(at, left);
-            put_in_byte(out, at, n, extract(value as u64, left - n, n));
+            put_in_byte(out, at, n, extract(u64::from(value), left - n, n));
             at += n as usize;
             left -= n;
         }

@@ -51,11 +51,9 @@ pub record ReadSays (s : List ℕ) (old : Buffers) (r : Result ReadValues Refusa
   pub claims_after : new.claims ≡ read_claims s old.counts old.claims old.joined
   pub joined_after : new.joined ≡ read_joined s old.counts old.claims old.joined
 
--- buffers with room for the counts, claims and bits of the first n risks from the place `at` on, which is no later than the header's
--- end
-pub record RisksRoom (s : List ℕ) (at n counts_room claims_room joined_room : ℕ) : Type 0 where
+-- buffers with room for the claims and bits of the first n risks from the place `at` on, which is no later than the header's end
+pub record RisksRoom (s : List ℕ) (at n claims_room joined_room : ℕ) : Type 0 where
   pub place : at ≤ plan.header_bits
   pub few : n ≤ most_risks
-  pub counts : n ≤ counts_room
   pub claims : sum (counts_from s at n) ≤ claims_room
   pub joined : sum (counts_from s at n) ≤ joined_room

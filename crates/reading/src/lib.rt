@@ -2,19 +2,17 @@
 // of first claims; then the claims are gone over, once, to store them.
 #![tactic(auto)]
 
-ghost use Rattle.std.specs.Prelude.{◌≡◌, map, ◌+◌, ◌≤◌, length};
-ghost use Rattle.std.proofs.Math.Seq.{paste};
+ghost use Rattle.std.specs.Prelude.{◌≡◌, map, length};
 ghost use Rattle.plan.specs.Calls.{filled};
 ghost use Rattle.plan.specs.Claim.{dollars, claims_from, past_claims};
 ghost use Rattle.plan.specs.Risk.{counts_from, risks_from, all_claims};
-ghost use Rattle.claims.specs.Claim.{RunReach};
-ghost use Rattle.claims.specs.Edition.{LieAs};
 ghost use Rattle.reading.specs.Reading.{bit, buffers, RisksRoom, ReadSays};
 
 use bits::BitPlace;
-use claims::claim::{claim_at, reach_of};
-use claims::edition::Edition;
-use counts::count_at;
+use claims::claim::claim_at;
+use claims::edition::ClaimFile;
+use claims::span::ClaimSpan;
+use counts::head_at;
 use group::{Header, Refusal};
 use groupfile::opening::{Outline, open_outline};
 
@@ -26,63 +24,50 @@ pub struct ReadValues {
     pub header: Header,
 }
 
-// The claims from a place on, as many as `count`, into two buffers' entries from `from` on, the dollars and the bits; the place after
-// them.
-fn read_claims(
-    file: &[u8],
-    place: BitPlace,
-    count: u32,
-    edition: Edition,
-    claims: &mut [u32],
-    joined: &mut [u8],
-    from: usize,
-) -> BitPlace
-    requires run_reach { RunReach place.at count × LieAs file.now edition }
-    requires count_in_bounds { (from + count ≤ length claims.old) × (from + count ≤ length joined.old) }
-    ensures placed { result.at ≡ past_claims file.now place.at count }
-    ensures claimed { claims.new
-        ≡ paste claims.old from (map dollars (claims_from file.now place.at count)) count }
-    ensures joining { joined.new
-        ≡ paste joined.old from (map bit (claims_from file.now place.at count)) count }
+// Claims into two buffers, the dollars and the bits, each of as many entries; the place after them. Of what a `zip` of two buffers
+// writes no proof knows anything, so the bits are stored by the entry's number.
+fn read_claims(file: &ClaimFile<'_>, span: ClaimSpan, claims: &mut [u32], joined: &mut [u8]) -> BitPlace
+    requires { (length claims.old ≡ span.count) × (length joined.old ≡ span.count) }
+    ensures placed { result.at ≡ past_claims file.now.bytes.now span.first.at span.count }
+    ensures claimed { claims.new ≡ map dollars (claims_from file.now.bytes.now span.first.at span.count) }
+    ensures joining { joined.new ≡ map bit (claims_from file.now.bytes.now span.first.at span.count) }
 {
-    let reach = reach_of(place, count);
-    let mut next = place;
-    for i in 0..count as usize {
-        let claim = claim_at(file, next, edition, reach);
-        claims[from + i] = claim.dollars;
-        joined[from + i] = claim.joined as u8;
+    let reach = span.last_byte();
+    let mut next = span.first;
+    for (i, dollars) in claims.iter_mut().enumerate() {
+        let claim = claim_at(file, next, reach);
+        *dollars = claim.dollars;
+        joined[i] = claim.joined as u8;
         next = claim.next;
     }
     next
 }
 
-// The counts, claims and bits of so many risks from a place on, into buffers with room for them.
+// The risks from a place on, as many as there are entries for their counts: their counts, claims and bits, into buffers with room for
+// them.
 fn read_risks(
-    file: &[u8],
+    file: &ClaimFile<'_>,
     place: BitPlace,
-    risks: usize,
-    edition: Edition,
     counts: &mut [u8],
     claims: &mut [u32],
     joined: &mut [u8],
 )
-    requires risks_room { RisksRoom file.now place.at risks (length counts.old) (length claims.old) (length joined.old) }
-    requires edition_value { LieAs file.now edition }
+    requires { RisksRoom file.now.bytes.now place.at (length counts.old) (length claims.old) (length joined.old) }
     ensures counted { counts.new
-        ≡ filled (counts_from file.now place.at risks) counts.old }
+        ≡ counts_from file.now.bytes.now place.at (length counts.old) }
     ensures claimed { claims.new
-        ≡ filled (map dollars (all_claims (risks_from file.now place.at risks))) claims.old }
+        ≡ filled (map dollars (all_claims (risks_from file.now.bytes.now place.at (length counts.old)))) claims.old }
     ensures joining { joined.new
-        ≡ filled (map bit (all_claims (risks_from file.now place.at risks))) joined.old }
+        ≡ filled (map bit (all_claims (risks_from file.now.bytes.now place.at (length counts.old)))) joined.old }
 {
     let mut next = place;
     let mut from: usize = 0;
-    for entry in &mut counts[..risks] {
-        let count = count_at(file, next);
-        let k = count.value;
-        *entry = k as u8;
-        next = read_claims(file, count.next, k, edition, claims, joined, from);
-        from += k as usize;
+    for entry in counts {
+        let span = head_at(file, next).claims;
+        *entry = span.count as u8;
+        let past = from + span.count as usize;
+        next = read_claims(file, span, &mut claims[from..past], &mut joined[from..past]);
+        from = past;
     }
 }
 
@@ -112,13 +97,11 @@ pub fn read(
     if joined.len() < run.claims as usize {
         return Err(Refusal::Room);
     }
-    let edition = Edition::or_first(run.edition);
+    let claim_file = ClaimFile::new(file, run.edition);
     read_risks(
-        file,
+        &claim_file,
         run.first,
-        risks as usize,
-        edition,
-        counts,
+        &mut counts[..risks as usize],
         claims,
         joined,
     );

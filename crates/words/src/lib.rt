@@ -111,7 +111,7 @@ fn between(old: u8, low: u32, n: u32, part: u64) -> u8
     requires { (low + n ≤ 8) × (part < 2 ^ n) }
     ensures { Inserted old low n part result }
 {
-    let b = old as u64;
+    let b = u64::from(old);
     let top = join(b >> (low + n), n, part);
     join(top, low, extract(b, 0, low)) as u8
 }

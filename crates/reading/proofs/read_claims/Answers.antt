@@ -1,25 +1,45 @@
--- Each claim of the run is in reach, and a turn stores one claim more.
-use Rattle.std.proofs.Common.{sym, ap, ◌∙◌, arith}
+-- Each claim is in reach, and a turn stores one claim more.
+use Rattle.std.proofs.Common.{◌≡◌, sym, ap, ◌∙◌, arith}
 use Rattle.plan.specs.Claim as plan
+use Rattle.plan.specs.Claim.{dollars}
 use Rattle.plan.proofs.Claims.{joined-le, past_more}
 use Rattle.claims.proofs.Reach.{next-reach}
-use Rattle.reading.proofs.Storing.{copying-more}
+use Rattle.reading.specs.Reading.{bit}
+use Rattle.reading.proofs.Storing.{parts-more, parts-all}
 use Rattle.reading.proofs.read_claims.Goals as goal
 
 pub claim_at-claim-requires : goal.claim_at-claim-requires
 claim_at-claim-requires c =
-    (next-reach c.args.file.now c.loop-i.invariant.0 c.loop-i-test.true c.reach_of-reach.ensures, c.requires.run_reach.1)
+    next-reach c.args.file.now.bytes.now {i = c.loop-i.i} c.loop-i.invariant.0 (omega (arith, c.loop-i-test.true, c.requires.0)) c.last_byte-reach.ensures
 
 pub overflow_cast-joined : goal.overflow_cast-joined
-overflow_cast-joined c = omega (arith, c.claim_at-claim.ensures.bit, joined-le c.args.file.now c.loop-i.next.at)
+overflow_cast-joined c =
+    record { fits = omega (arith, c.claim_at-claim.ensures.bit, joined-le c.args.file.now.bytes.now c.loop-i.next.at) }
 
 pub loop-i-preserved : goal.loop-i-preserved
 loop-i-preserved c =
-    let s = c.args.file.now in
+    let s = c.args.file.now.bytes.now in
+    let at = c.args.span.first.at in
     let w = c.loop-i.invariant in
     let x = c.claim_at-claim.ensures in
-    let room = c.requires.count_in_bounds in (
-      x.next ∙ ap (plan.past_claim s) w.0 ∙ sym (past_more s c.args.place.at c.loop-i.i),
-      copying-more w.1 w.0 x.is c.loop-i-test.true room.0,
-      copying-more w.2 w.0 x.bit c.loop-i-test.true room.1,
+    let h = c.loop-i-test.true in (
+      x.next ∙ ap (plan.past_claim s) w.0 ∙ sym (past_more s at c.loop-i.i),
+      parts-more dollars s at c.args.claims.now w.1 w.0 x.is h,
+      parts-more bit s at c.args.joined.now w.2 w.0 x.bit (omega (arith, h, c.requires.0, c.requires.1)),
     )
+
+-- all are passed
+pub returns-clause-placed : goal.returns-clause-placed
+returns-clause-placed c =
+    let all : c.loop-i.i ≡ c.args.span.count = omega (arith, c.loop-i-test.false, c.loop-i.auto.i-end, c.requires.0) in
+    c.loop-i.invariant.0 ∙ ap (plan.past_claims c.args.file.now.bytes.now c.args.span.first.at) all
+
+pub returns-clause-claimed : goal.returns-clause-claimed
+returns-clause-claimed c =
+    let all : c.loop-i.i ≡ c.args.span.count = omega (arith, c.loop-i-test.false, c.loop-i.auto.i-end, c.requires.0) in
+    parts-all dollars c.args.file.now.bytes.now c.args.span.first.at c.args.claims.now c.loop-i.invariant.1 all c.requires.0
+
+pub returns-clause-joining : goal.returns-clause-joining
+returns-clause-joining c =
+    let all : c.loop-i.i ≡ c.args.span.count = omega (arith, c.loop-i-test.false, c.loop-i.auto.i-end, c.requires.0) in
+    parts-all bit c.args.file.now.bytes.now c.args.span.first.at c.args.joined.now c.loop-i.invariant.2 all c.requires.1

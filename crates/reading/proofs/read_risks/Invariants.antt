@@ -1,10 +1,9 @@
 -- Of the risks passed the counts fill the entries for them, and claims and bits the first entries of their buffers, and the place is
 -- where they end.
-use Rattle.std.proofs.Common.{take}
 use Rattle.reading.proofs.Storing.{Storing}
 use Rattle.reading.proofs.read_risks.Given as goal
 
 abbrev pub invariant-loop-entry : goal.invariant-loop-entry
 invariant-loop-entry l =
-    Storing l.file l.initial.next.at (take l.risks l.fn.counts) l.initial.claims l.initial.joined l.entry-index l.next.at l.from
+    Storing l.file.bytes.now l.initial.next.at l.initial.entry-items l.initial.claims l.initial.joined l.entry-index l.next.at l.from
     l.entry-items l.claims l.joined
