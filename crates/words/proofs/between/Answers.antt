@@ -7,10 +7,10 @@ pub overflow_cast-result : goal.overflow_cast-result
 overflow_cast-result c =
     let a = c.args in
     let p = parts a.old a.low a.n a.part c.ranges.old.fits c.requires.0 c.requires.1 in
-    record { fits = rw (c.join.ensures, c.join-top.ensures, c.extract.ensures, div-one) p.byte }
+    record { fits = rw (c.join.ensures, c.join-top.ensures, c.extract.ensures, div-one, c.from-b.ensures) p.byte }
 
 pub returns : goal.returns
 returns c =
     let a = c.args in
     let p = parts a.old a.low a.n a.part c.ranges.old.fits c.requires.0 c.requires.1 in
-    rw (c.join.ensures, c.join-top.ensures, c.extract.ensures, div-one) p.is
+    rw (c.join.ensures, c.join-top.ensures, c.extract.ensures, div-one, c.from-b.ensures) p.is
