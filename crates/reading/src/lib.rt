@@ -26,7 +26,12 @@ pub struct ReadValues {
 
 // Claims into two buffers, the dollars and the bits, each of as many entries; the place after them. Of what a `zip` of two buffers
 // writes no proof knows anything, so the bits are stored by the entry's number.
-fn read_claims(file: &ClaimFile<'_>, span: ClaimSpan, claims: &mut [u32], joined: &mut [u8]) -> BitPlace
+fn read_claims(
+    file: &ClaimFile<'_>,
+    span: ClaimSpan,
+    claims: &mut [u32],
+    joined: &mut [u8],
+) -> BitPlace
     requires { (length claims.old ≡ span.count) × (length joined.old ≡ span.count) }
     ensures placed { result.at ≡ past_claims file.now.bytes.now span.first.at span.count }
     ensures claimed { claims.new ≡ map dollars (claims_from file.now.bytes.now span.first.at span.count) }
