@@ -3,8 +3,6 @@
 #![tactic(auto)]
 
 ghost use Rattle.std.specs.Prelude.{◌≤◌};
-ghost use Rattle.plan.specs.Claim.{claim};
-ghost use Rattle.plan.specs.Sizes.{largest_claim};
 ghost use Rattle.accidents.specs.Accidents.{first_low, second_low, claim_in, PairOpens, AccidentsSummed};
 ghost use Rattle.accidents.specs.Accidents.{AccidentRoom, StartsWith, AccidentAdded, PairRoom, PairAdded, RunEnded};
 
@@ -45,12 +43,15 @@ impl AccidentSums {
         if joined == 0 { self.total } else { self.start }
     }
 
-    // With one claim more. Where the claim opens an accident, all that came since the last one began is that accident's sum; where
-    // it does not, nothing has ended.
-    fn join_claim(self, joined: u32, dollars: u32) -> AccidentSums
-        requires { AccidentRoom self × (dollars ≤ largest_claim) }
-        ensures { AccidentAdded self (claim joined dollars) result }
+    // With one claim more, whose fields are in a word: the bit above its `low` lowest bits and 20 more, and the dollars above the
+    // `low` lowest. Where the claim opens an accident, all that came since the last one began is that accident's sum; where it does
+    // not, nothing has ended.
+    pub fn join_from(self, word: u64, low: u32) -> AccidentSums
+        requires { AccidentRoom self × (low ≤ 43) }
+        ensures { AccidentAdded self (claim_in word low) result }
     {
+        let joined = extract(word, low + DOLLARS_WIDTH, 1) as u32;
+        let dollars = extract(word, low, DOLLARS_WIDTH) as u32;
         let start = self.start_with(joined);
         let ended = start - self.start;
         let limited = self.limited + ended.min(self.most);
@@ -61,17 +62,6 @@ impl AccidentSums {
             limited,
             most: self.most,
         }
-    }
-
-    // The same of the claim whose fields are in a word: the bit above its `low` lowest bits and 20 more, and the dollars above the
-    // `low` lowest.
-    pub fn join_from(self, word: u64, low: u32) -> AccidentSums
-        requires { AccidentRoom self × (low ≤ 43) }
-        ensures { AccidentAdded self (claim_in word low) result }
-    {
-        let joined = extract(word, low + DOLLARS_WIDTH, 1) as u32;
-        let dollars = extract(word, low, DOLLARS_WIDTH) as u32;
-        self.join_claim(joined, dollars)
     }
 
     // The same of both claims of a pair, where each opens an accident: the one before them ends, and the first of them.
