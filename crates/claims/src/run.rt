@@ -13,7 +13,7 @@ pub struct ClaimRun {
     pub next: BitPlace,
 }
 
-// The lesser of an accident's sum and the loss limit; a limit of 0 is none.
+// The lesser of an accident's sum and the loss limit. A limit of 0 is none, as the file and C have it: nothing else looks at it.
 pub fn limited_to(limit: u32, sum: u32) -> u32
     ensures { result ≡ limited_to limit sum }
 {

@@ -8,14 +8,15 @@ ghost use Rattle.claims.specs.Run.{ClaimsAre};
 ghost use Rattle.risks.specs.Risk.{RiskIs};
 ghost use Rattle.risks.specs.RunningSums.{NextRisk, RiskPassed};
 
+use accidents::AccidentSums;
 use bits::BitPlace;
 use claims::edition::{ClaimFile, Edition};
 use claims::run::ClaimRun;
 use claims::span::ClaimSpan;
+use claims::sums::run_of;
 use counts::head_at;
 use group::Losses;
-use joined::joined_claims;
-use singles::single_claims;
+use singles::ClaimSums;
 
 // A risk as the file has it: the number of its claims, whether its first claim opens an accident, L and A, and the place after it.
 #[derive(Clone, Copy)]
@@ -50,8 +51,8 @@ pub fn claims_at(file: &ClaimFile<'_>, span: ClaimSpan, limit: u32) -> ClaimRun
     ensures { ClaimsAre file.now.bytes.now span.first.at span.count limit result }
 {
     match file.edition {
-        Edition::First => single_claims(file.bytes, span, limit),
-        Edition::Second => joined_claims(file.bytes, span, limit),
+        Edition::First => run_of::<ClaimSums>(file.bytes, span, limit),
+        Edition::Second => run_of::<AccidentSums>(file.bytes, span, limit),
     }
 }
 

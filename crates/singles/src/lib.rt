@@ -1,23 +1,18 @@
-// The claims of a risk in edition 1: each claim is its own accident.
+// The sums of edition 1, where each claim is its own accident: what a claim more does to them.
 #![tactic(auto)]
 
-ghost use Rattle.std.specs.Prelude.{◌≡◌};
-ghost use Rattle.plan.specs.Claim.{joined_width};
-ghost use Rattle.plan.specs.Header.{edition_of};
 ghost use Rattle.claims.specs.Claim.{front_dollars};
-ghost use Rattle.claims.specs.Run.{ClaimsAre};
 ghost use Rattle.singles.specs.Singles.{ClaimRoom, ClaimAdded, ClaimsSummed};
 
 use bits::BitPlace;
 use claims::claim::{DOLLARS_WIDTH, LARGEST_CLAIM, dollars_ahead, limited_ahead};
 use claims::run::{ClaimRun, limited_to};
-use claims::span::ClaimSpan;
-use claims::sums::{Sums, run_of};
+use claims::sums::Sums;
 use group::Losses;
 
 // The sums of some claims of a risk, each an accident of its own: L and A of them. `most` is what the limit leaves of the largest claim.
 #[derive(Clone, Copy)]
-struct ClaimSums {
+pub struct ClaimSums {
     pub total: u32,
     pub limited: u32,
     pub most: u32,
@@ -73,12 +68,4 @@ impl Sums for ClaimSums {
             next,
         }
     }
-}
-
-// Claims without bits.
-pub fn single_claims(file: &[u8], span: ClaimSpan, limit: u32) -> ClaimRun
-    requires { joined_width (edition_of file.now) ≡ 0 }
-    ensures { ClaimsAre file.now span.first.at span.count limit result }
-{
-    run_of::<ClaimSums>(file, span, limit)
 }
