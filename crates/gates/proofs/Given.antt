@@ -10,7 +10,7 @@ use Rattle.plan.specs.Calls.{answer}
 use Rattle.plan.proofs.Questions.{given-passed}
 use Rattle.plan.proofs.Losses.{length-losses}
 use Rattle.group.specs.Refusals.{answer_is}
-use Rattle.group.specs.Values.{losses_is, LossesAre}
+use Rattle.group.specs.Values.{losses_of, losses_is, LossesAre}
 use Rattle.group.specs.declared.Losses as group
 use Rattle.group.specs.declared.GroupLosses.{GroupLosses}
 use Rattle.group.proofs.Group.{risks}
@@ -44,6 +44,12 @@ module _ (s : List ℕ) (t : Terms)
   pub bills-are : {g : GroupLosses} → LossesAre (losses_in s) g
       → map (λ (r : Losses). bill_with (terms_is t) r.limited) (losses_is g) ≡ billed_premiums (header_of s) (losses_in s)
   bills-are x = ap₂ (λ (y : plan.Terms) (l : List Losses). map (λ (r : Losses). bill_with y r.limited) l) terms-are x.each
+
+  -- and where those losses are lent
+  pub lent-bills : {g : GroupLosses} {xs : List group.Losses} → LossesAre (losses_in s) g → xs ≡ g.of_risks.items
+      → map (λ (r : Losses). bill_with (terms_is t) r.limited) (losses_of xs) ≡ billed_premiums (header_of s) (losses_in s)
+  lent-bills x lent =
+      ap (λ (l : List group.Losses). map (λ (r : Losses). bill_with (terms_is t) r.limited) (losses_of l)) lent ∙ bills-are x
 
   -- and one by one: the bill by the A of risk i is its premium
   pub bill_is : {g : GroupLosses} → LossesAre (losses_in s) g → (i : ℕ)

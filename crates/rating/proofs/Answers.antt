@@ -20,7 +20,7 @@ use Rattle.group.specs.declared.Losses as group
 use Rattle.group.specs.declared.GroupLosses.{GroupLosses}
 use Rattle.steps.specs.Terms.{terms_is}
 use Rattle.steps.specs.declared.bill.Terms.{Terms}
-use Rattle.gates.proofs.Given.{passes, terms-are, risk-count, bills-are}
+use Rattle.gates.proofs.Given.{passes, terms-are, risk-count, lent-bills}
 use Rattle.rating.specs.Bills.{bills_of}
 use Rattle.rating.specs.Rates.{figures_of, figures_by, figures_are, RateSays, Demanded}
 use Rattle.rating.specs.declared.rates.GroupFigures.{GroupFigures}
@@ -51,9 +51,8 @@ module _ (s old : List ℕ) where
 module _ (s : List ℕ) (t : Terms)
     (gave : answer_is terms_is (Ok t) ≡ answer (first_no (rating_questions s)) (terms_of (header_of s) (losses_in s)))
     {g : GroupLosses} (losses : LossesAre (losses_in s) g) {xs : List group.Losses} (lent : xs ≡ g.of_risks.items) where
-  -- the bills that the code puts are the file's premiums
-  pub bills_are : bills_of t (losses_of xs) ≡ billed_premiums (header_of s) (losses_in s)
-  bills_are = ap (λ (l : List group.Losses). bills_of t (losses_of l)) lent ∙ bills-are s t gave losses
+  bills_are : bills_of t (losses_of xs) ≡ billed_premiums (header_of s) (losses_in s)
+  bills_are = lent-bills s t gave losses lent
 
   module _ (old new : List ℕ) {f : GroupFigures} (room : 4 * t.risks ≤ length old) (figures : f ≡ figures_by t (losses_of xs))
       (put : new ≡ filled (bytes_of (slots 32 (bills_of t (losses_of xs)))) old) where
