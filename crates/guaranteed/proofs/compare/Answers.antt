@@ -1,5 +1,5 @@
 -- Questions 1 to 12, then 13, 16 and 17, then the bills of the file's group and each beside guaranteed cost.
-use Rattle.std.proofs.Common.{◌≡◌, refl, sym, ap, ◌∙◌, List, [], ◌∷◌, ◌&&◌, ℕ, ℤ, ◌*◌, ◌-◌, leb, length, arith, w64, to_z, of_z, to_z-of_z, Ok, Err}
+use Rattle.std.proofs.Common.{◌≡◌, refl, sym, ap, ◌∙◌, List, [], ◌∷◌, ◌&&◌, ℕ, ℤ, ◌*◌, ◌≤◌, ◌-◌, leb, length, arith, w64, to_z, of_z, to_z-of_z, Ok, Err}
 use Rattle.std.proofs.lemmas.Result.{err_from_is_err_and}
 use Rattle.plan.specs.Arithmetic.{sum_z}
 use Rattle.plan.specs.Header.{Header, header_of}
@@ -14,6 +14,7 @@ use Rattle.plan.proofs.FileSizes.{group-bounds}
 use Rattle.plan.proofs.Discounts.{discount_most}
 use Rattle.group.specs.Refusals.{number_of, verdict_is, answer_is}
 use Rattle.group.specs.Values.{losses_of}
+use Rattle.group.specs.declared.Losses as group
 use Rattle.group.specs.declared.Refusal.{Refusal}
 use Rattle.steps.specs.Terms.{terms_is}
 use Rattle.steps.specs.declared.bill.Terms.{Terms}
@@ -122,6 +123,19 @@ module _ (c : In_ok-schedule_verdict) where
       discountable c.args.file.now (layers_of c.args.schedule.layers) c.args.premiums.now c.args.differences.now c.in_ok-terms.terms given-terms
       c.open_rating-terms.ensures all-passed
 
+  -- and both buffers have room for the losses that are lent
+  enough : {xs : List group.Losses} → xs ≡ c.open_rating-terms.result.losses.of_risks.items
+      → (4 * length xs ≤ length c.args.premiums.now) × (length xs ≤ length c.args.differences.now)
+  enough lent =
+      let s = c.args.file.now in
+      let ls = layers_of c.args.schedule.layers in
+      let t = c.in_ok-terms.terms in
+      let x = c.open_rating-terms.ensures.losses in
+      let many = as-many s t given-terms x lent in (
+        omega (arith, many, room s ls t given-terms x c.args.premiums.now c.args.differences.now all-passed),
+        omega (arith, many, room-too s ls t given-terms x c.args.premiums.now c.args.differences.now all-passed),
+      )
+
 pub discount_of-discount-requires : goal.discount_of-discount-requires
 discount_of-discount-requires c = to-discount c
 
@@ -135,28 +149,11 @@ overflow_sub-guaranteed c =
     )
 
 pub bill_group-rated-requires : goal.bill_group-rated-requires
-bill_group-rated-requires c =
-    let p = (goal.at.bill_group-rated-requires c).In_ok-schedule_verdict in
-    let s = c.args.file.now in
-    let t = c.in_ok-terms.terms in
-    let x = c.open_rating-terms.ensures.losses in
-    omega (
-      arith,
-      as-many s t (given-terms p) x c.lent-lent.ensures,
-      room s (layers_of c.args.schedule.layers) t (given-terms p) x c.args.premiums.now c.args.differences.now (all-passed p),
-    )
+bill_group-rated-requires c = (enough (goal.at.bill_group-rated-requires c).In_ok-schedule_verdict c.lent-lent.ensures).0
 
 pub put_differences-difference-requires : goal.put_differences-difference-requires
 put_differences-difference-requires c =
-    let p = (goal.at.put_differences-difference-requires c).In_ok-schedule_verdict in
-    let s = c.args.file.now in
-    let t = c.in_ok-terms.terms in
-    let x = c.open_rating-terms.ensures.losses in
-    omega (
-      arith,
-      as-many s t (given-terms p) x c.lent-lent.ensures,
-      room-too s (layers_of c.args.schedule.layers) t (given-terms p) x c.args.premiums.now c.args.differences.now (all-passed p),
-    )
+    (enough (goal.at.put_differences-difference-requires c).In_ok-schedule_verdict c.lent-lent.ensures).1
 
 -- the discount, guaranteed cost and the sum, as the code has them
 module _ (c : After-put_differences-difference) where
