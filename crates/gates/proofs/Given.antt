@@ -1,7 +1,6 @@
 -- What the gate of questions 1 to 12 gives, to a call that goes on from it: where it gives terms, the questions pass, the terms are
 -- the file's own, and the bills by them are step 6's premiums. Assumes nothing.
-use Rattle.std.proofs.Common.{◌≡◌, sym, ap, ap₂, ◌∙◌, List, map, ℕ, ◌≤◌, length, get_or, arith, Ok}
-use Rattle.plan.specs.Sizes.{most_risks}
+use Rattle.std.proofs.Common.{◌≡◌, sym, ap, ap₂, ◌∙◌, List, map, ℕ, length, get_or, Ok}
 use Rattle.plan.specs.Header.{header_of, risk_count}
 use Rattle.plan.specs.Losses.{Losses, losses_in}
 use Rattle.plan.specs.Premium as plan
@@ -11,8 +10,10 @@ use Rattle.plan.specs.Calls.{answer}
 use Rattle.plan.proofs.Questions.{given-passed}
 use Rattle.plan.proofs.Losses.{length-losses}
 use Rattle.group.specs.Refusals.{answer_is}
-use Rattle.group.specs.Values.{losses_is, LossesAre}
+use Rattle.group.specs.Values.{losses_of, losses_is, LossesAre}
+use Rattle.group.specs.declared.Losses as group
 use Rattle.group.specs.declared.GroupLosses.{GroupLosses}
+use Rattle.group.proofs.Group.{risks}
 use Rattle.steps.specs.Terms.{terms_is}
 use Rattle.steps.specs.declared.bill.Terms.{Terms}
 
@@ -32,16 +33,23 @@ module _ (s : List ℕ) (t : Terms)
   pub risks_are : t.risks ≡ length (losses_in s)
   risks_are = ap (λ (x : plan.Terms). x.risks) terms-are
 
-  pub group-few : length (losses_in s) ≤ most_risks
-  group-few = omega (arith, t.few, risks_are)
-
   pub risk-count : t.risks ≡ risk_count s
   risk-count = risks_are ∙ length-losses s
+
+  -- as many as the losses that the gate gives
+  pub as-many : {g : GroupLosses} {xs : List group.Losses} → LossesAre (losses_in s) g → xs ≡ g.of_risks.items → length xs ≡ t.risks
+  as-many x lent = ap length lent ∙ risks x ∙ sym risks_are
 
   -- the bills by the losses that the gate gives are step 6's premiums of the risks
   pub bills-are : {g : GroupLosses} → LossesAre (losses_in s) g
       → map (λ (r : Losses). bill_with (terms_is t) r.limited) (losses_is g) ≡ billed_premiums (header_of s) (losses_in s)
   bills-are x = ap₂ (λ (y : plan.Terms) (l : List Losses). map (λ (r : Losses). bill_with y r.limited) l) terms-are x.each
+
+  -- and where those losses are lent
+  pub lent-bills : {g : GroupLosses} {xs : List group.Losses} → LossesAre (losses_in s) g → xs ≡ g.of_risks.items
+      → map (λ (r : Losses). bill_with (terms_is t) r.limited) (losses_of xs) ≡ billed_premiums (header_of s) (losses_in s)
+  lent-bills x lent =
+      ap (λ (l : List group.Losses). map (λ (r : Losses). bill_with (terms_is t) r.limited) (losses_of l)) lent ∙ bills-are x
 
   -- and one by one: the bill by the A of risk i is its premium
   pub bill_is : {g : GroupLosses} → LossesAre (losses_in s) g → (i : ℕ)

@@ -52,10 +52,7 @@ pub fn open_rating(file: &[u8]) -> Opened<Terms>
         run,
         losses,
     } = open_losses(file);
-    let terms = match verdict {
-        Ok(()) => balance(header, &losses),
-        Err(refusal) => Err(refusal),
-    };
+    let terms = verdict.and_then(|()| balance(header, &losses));
     Opened {
         verdict: terms,
         header,

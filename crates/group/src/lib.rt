@@ -2,7 +2,8 @@
 // means in document 01 is in specs/; nothing here knows how they lie in a file.
 #![tactic(auto)]
 
-ghost use Rattle.std.specs.Prelude.{◌≡◌, length};
+ghost use Rattle.std.specs.Prelude.{◌≡◌, ◌≤◌, length};
+ghost use Rattle.plan.specs.Sizes.{most_risks};
 ghost use Rattle.group.specs.Refusals.{number_of};
 
 use arrayvec::ArrayVec;
@@ -84,6 +85,13 @@ pub struct Losses {
     pub limited: u32,
 }
 
+// L and A of each risk of a group, lent: of 255 risks at most.
+#[derive(Clone, Copy)]
+pub struct RiskLosses<'a> {
+    pub each: &'a [Losses],
+    pub ghost few: { length each.now ≤ most_risks },
+}
+
 // The losses of a group: L and A of each of its risks, and SL and SA.
 #[derive(Drop)]
 pub struct GroupLosses {
@@ -98,5 +106,14 @@ impl GroupLosses {
         ensures { result ≡ length self.now.of_risks.items }
     {
         self.of_risks.len() as u32
+    }
+
+    // L and A of each of the risks.
+    pub fn lent(&self) -> RiskLosses<'_>
+        ensures { result.each.now ≡ self.now.of_risks.items }
+    {
+        RiskLosses {
+            each: &self.of_risks,
+        }
     }
 }

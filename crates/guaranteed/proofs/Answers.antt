@@ -9,7 +9,7 @@ use Rattle.plan.specs.Field.{slots, bytes_of}
 use Rattle.plan.specs.Header.{header_of, risk_count}
 use Rattle.plan.specs.Losses.{losses_in}
 use Rattle.plan.specs.Premium as plan
-use Rattle.plan.specs.Premium.{terms_of}
+use Rattle.plan.specs.Premium.{terms_of, billed_premiums}
 use Rattle.plan.specs.Questions.{Verdict, passed, failed, first_no, or_else, rating_questions, rate_enough, question13}
 use Rattle.plan.specs.Calls.{Answer, given, answer, giving, filled, buffer_after, rated_of, premium_bytes}
 use Rattle.plan.specs.Discount.{Layer, discount, guaranteed_cost, rates_pass}
@@ -19,13 +19,16 @@ use Rattle.plan.proofs.Tests.{both}
 use Rattle.plan.proofs.Questions.{after-gate, answered, or-passed, yes-to}
 use Rattle.plan.proofs.Comparisons.{numbers_with, beside}
 use Rattle.group.specs.Refusals.{number_of, answer_is}
-use Rattle.group.specs.Values.{losses_is, LossesAre}
+use Rattle.group.specs.Values.{losses_of, LossesAre}
 use Rattle.group.specs.declared.Refusal.{Refusal}
+use Rattle.group.specs.declared.Losses as group
 use Rattle.group.specs.declared.GroupLosses.{GroupLosses}
 use Rattle.steps.specs.Terms.{terms_is}
 use Rattle.steps.specs.declared.bill.Terms.{Terms}
-use Rattle.gates.proofs.Given.{passes, terms-are, risk-count, bills-are}
+use Rattle.gates.proofs.Given.{passes, terms-are, risk-count, lent-bills}
 use Rattle.rating.specs.Bills.{bills_of}
+use Rattle.rating.specs.Rates.{figures_by}
+use Rattle.rating.specs.declared.rates.GroupFigures.{GroupFigures}
 use Rattle.guaranteed.specs.Comparisons.{parts_of, numbers_given, CompareSays}
 use Rattle.guaranteed.specs.declared.Comparison.{Comparison}
 
@@ -91,31 +94,33 @@ module _ (s : List ℕ) (ls : List Layer) (t : Terms)
       yes-to 16 (schedule_questions ls) refl
       (or-passed (first_no (question13 (compare_enough s (length old_premiums) (length old_differences)) ∷ [])) _ asked).1
 
-  -- what the code gives and leaves
-  module _ (c : Comparison) (premiums : List ℕ) (differences : List ℤ)
-      (risks : c.rated.risks ≡ t.risks) (basic : c.rated.basic ≡ t.basic) (excess : c.rated.excess ≡ t.excess)
-      (billed : c.rated.billed ≡ sum (bills_of t (losses_is g)))
+  -- what the code gives and leaves, by the losses that it is lent
+  module _ {xs : List group.Losses} (lent : xs ≡ g.of_risks.items) (c : Comparison) (premiums : List ℕ) (differences : List ℤ)
+      (rated : c.rated ≡ figures_by t (losses_of xs))
       (discounted : c.discount ≡ discount ls (header_of s).standard_premium)
       (less : c.guaranteed ≡ (header_of s).standard_premium - c.discount)
-      (summed : c.difference ≡ sum_z (λ z. z) (differences_of c.guaranteed (bills_of t (losses_is g))))
-      (put : premiums ≡ filled (bytes_of (slots 32 (bills_of t (losses_is g)))) old_premiums)
-      (put-too : differences ≡ filled (differences_of c.guaranteed (bills_of t (losses_is g))) old_differences) where
+      (summed : c.difference ≡ sum_z (λ z. z) (differences_of c.guaranteed (bills_of t (losses_of xs))))
+      (put : premiums ≡ filled (bytes_of (slots 32 (bills_of t (losses_of xs)))) old_premiums)
+      (put-too : differences ≡ filled (differences_of c.guaranteed (bills_of t (losses_of xs))) old_differences) where
+    bills_are : bills_of t (losses_of xs) ≡ billed_premiums (header_of s) (losses_in s)
+    bills_are = lent-bills s t gave losses lent
+
     cost-is : c.guaranteed ≡ guaranteed_cost ls (header_of s).standard_premium
     unfolding guaranteed_cost
     cost-is = less ∙ ap (λ (x : ℕ). (header_of s).standard_premium - x) discounted
 
     -- the differences of the file's own bills
-    differences_are : differences_of c.guaranteed (bills_of t (losses_is g)) ≡ all.differences
+    differences_are : differences_of c.guaranteed (bills_of t (losses_of xs)) ≡ all.differences
     unfolding comparison_of
-    differences_are = λ i. differences_of (cost-is i) (bills-are s t gave losses i)
+    differences_are = λ i. differences_of (cost-is i) (bills_are i)
 
     numbers_are : numbers_given c ≡ numbers_with all t.basic
     unfolding comparison_of rated_of
     numbers_are = λ i. record {
-      risks = (risks ∙ ap (λ (x : plan.Terms). x.risks) (terms-are s t gave)) i;
-      basic = basic i;
-      excess = (excess ∙ ap (λ (x : plan.Terms). x.excess) (terms-are s t gave)) i;
-      billed = (billed ∙ ap sum (bills-are s t gave losses)) i;
+      risks = (ap (λ (f : GroupFigures). f.risks) rated ∙ ap (λ (x : plan.Terms). x.risks) (terms-are s t gave)) i;
+      basic = (rated i).basic;
+      excess = (ap (λ (f : GroupFigures). f.excess) rated ∙ ap (λ (x : plan.Terms). x.excess) (terms-are s t gave)) i;
+      billed = (ap (λ (f : GroupFigures). f.billed) rated ∙ ap sum bills_are) i;
       discount = discounted i;
       guaranteed = cost-is i;
       difference = (summed ∙ ap (sum_z (λ z. z)) differences_are) i;
@@ -127,7 +132,7 @@ module _ (s : List ℕ) (ls : List Layer) (t : Terms)
 
     left : premiums ≡ filled (premium_bytes all.rated) old_premiums
     unfolding comparison_of rated_of
-    left = put ∙ ap (λ (ps : List ℕ). filled (bytes_of (slots 32 ps)) old_premiums) (bills-are s t gave losses)
+    left = put ∙ ap (λ (ps : List ℕ). filled (bytes_of (slots 32 ps)) old_premiums) bills_are
 
     left-too : differences ≡ filled all.differences old_differences
     left-too = put-too ∙ ap (λ (zs : List ℤ). filled zs old_differences) differences_are
@@ -138,7 +143,7 @@ module _ (s : List ℕ) (ls : List Layer) (t : Terms)
           (λ i. given (record {
             rated = record {
               risks = (numbers_are i).risks;
-              basic = (ap pos basic ∙ basic_after) i;
+              basic = (ap (λ (f : GroupFigures). pos f.basic) rated ∙ basic_after) i;
               excess = (numbers_are i).excess;
               billed = (numbers_are i).billed;
             };

@@ -9,16 +9,16 @@ use Rattle.std.proofs.Math.ListN.{drop_of_length-le}
 use Rattle.std.proofs.Math.Nat.{mul-le-mul, le_of_lt}
 use Rattle.std.proofs.Math.Seq.{take-suc, take-length, length-take-le}
 use Rattle.plan.specs.Arithmetic.{sum, sum_z}
-use Rattle.plan.specs.Losses.{Losses}
 use Rattle.plan.specs.Sizes.{most_risks}
 use Rattle.plan.specs.Calls.{filled}
 use Rattle.plan.specs.Comparison.{differences_of}
 use Rattle.plan.proofs.Differences.{Differs, of-pos, of-add, of-minus, same, mag-lt}
 use Rattle.plan.proofs.Filled.{filled_none, length-filled, filled_more}
 use Rattle.plan.proofs.Comparisons.{added}
+use Rattle.group.specs.Values.{losses_of}
+use Rattle.group.specs.declared.Losses as group
 use Rattle.steps.specs.declared.bill.Terms.{Terms}
 use Rattle.rating.specs.Bills.{bills_of}
-use Rattle.guaranteed.specs.Comparisons.{Differing}
 
 -- of the differences of bills, i are put and summed
 pub record Differencing (bills : List ℕ) (cost : ℕ) (old : List ℤ) (i : ℕ) (total : ℤ) (present : List ℤ) : Type 0 where
@@ -33,12 +33,12 @@ pub record Differencing (bills : List ℕ) (cost : ℕ) (old : List ℤ) (i : �
 pub difference-fits : {a b : ℕ} → a < 2 ^ 32 → b < 2 ^ 32 → mag (pos a -ℤ pos b) < 2 ^ 63
 difference-fits {a} {b} h k = mag-lt (pos a -ℤ pos b) (of-minus (pos a) (pos b) (of-pos a) (of-pos b)) (omega (arith, h)) (omega (arith, k))
 
-module _ (t : Terms) (rs : List Losses) (cost : ℕ) (old : List ℤ) (d : Differing rs (length old)) where
+module _ (t : Terms) (xs : List group.Losses) (cost : ℕ) (old : List ℤ) (few : length xs ≤ most_risks) (enough : length xs ≤ length old) where
   abbrev bills : List ℕ
-  bills = bills_of t rs
+  bills = bills_of t (losses_of xs)
 
-  count : length bills ≡ length rs
-  count = length-map rs _
+  count : length bills ≡ length xs
+  count = length-map (losses_of xs) _ ∙ length-map xs _
 
   pub differencing-starts : Differencing bills cost old 0 (pos 0) old
   differencing-starts = record {
@@ -55,9 +55,9 @@ module _ (t : Terms) (rs : List Losses) (cost : ℕ) (old : List ℤ) (d : Diffe
     put-length = length-map (take i bills) (λ bill. pos bill -ℤ pos cost) ∙ length-take-le i bills w.within
 
     pub same_length : length present ≡ length old
-    same_length = ap length w.puts ∙ length-filled (differences_of cost (take i bills)) old (omega (arith, put-length, w.within, count, d.enough))
+    same_length = ap length w.puts ∙ length-filled (differences_of cost (take i bills)) old (omega (arith, put-length, w.within, count, enough))
 
-    module _ {bill : ℕ} (h : i < length rs) (is : bill ≡ get_or bills i 0) (small : bill < 2 ^ 31) {z : ℤ} (e : z ≡ pos bill -ℤ pos cost) where
+    module _ {bill : ℕ} (h : i < length xs) (is : bill ≡ get_or bills i 0) (small : bill < 2 ^ 31) {z : ℤ} (e : z ≡ pos bill -ℤ pos cost) where
       -- the sum with the next
       next : Differs (total +ℤ z) (w.billed + bill) ((i + 1) * cost)
       next =
@@ -68,9 +68,9 @@ module _ (t : Terms) (rs : List Losses) (cost : ℕ) (old : List ℤ) (d : Diffe
 
       pub sum_fits : cost < 2 ^ 32 → mag (total +ℤ z) < 2 ^ 63
       sum_fits c =
-          let few : i + 1 ≤ most_risks = omega (arith, h, d.few) in
-          let most : (i + 1) * cost ≤ most_risks * 2 ^ 32 = mul-le-mul few (le_of_lt c) in
-          mag-lt (total +ℤ z) next (omega (arith, w.billed_most, small, h, d.few)) (omega (arith, most))
+          let turn : i + 1 ≤ most_risks = omega (arith, h, few) in
+          let most : (i + 1) * cost ≤ most_risks * 2 ^ 32 = mul-le-mul turn (le_of_lt c) in
+          mag-lt (total +ℤ z) next (omega (arith, w.billed_most, small, h, few)) (omega (arith, most))
 
       -- the bills to come are the next and those after it
       to-come : drop i bills ≡ bill ∷ drop (i + 1) bills
@@ -95,11 +95,11 @@ module _ (t : Terms) (rs : List Losses) (cost : ℕ) (old : List ℤ) (d : Diffe
         total_is = next;
         puts =
             ap (λ (l : List ℤ). set l i z) w.puts
-            ∙ filled_more (differences_of cost (take i bills)) old z put-length (omega (arith, h, d.enough))
+            ∙ filled_more (differences_of cost (take i bills)) old z put-length (omega (arith, h, enough))
             ∙ ap (λ (l : List ℤ). filled l old) (sym grown);
       }
 
-    module _ (h : length rs ≤ i) where
+    module _ (h : length xs ≤ i) where
       all : i ≡ length bills
       all = omega (arith, h, w.within, count)
 

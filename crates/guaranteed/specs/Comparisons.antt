@@ -1,20 +1,13 @@
--- The call's answer as document 02's, and what putting the differences asks for.
-use Rattle.std.specs.Prelude.{◌≡◌, List, ℕ, ◌≤◌, ℤ, pos, length, Result, Ok, Err}
+-- The call's answer as document 02's.
+use Rattle.std.specs.Prelude.{◌≡◌, List, ℕ, ℤ, pos, length, Result, Ok, Err}
 use Rattle.plan.specs.Discount.{Layer}
 use Rattle.plan.specs.Comparison as plan
 use Rattle.plan.specs.Comparison.{NumbersGiven, Beside, compare_premiums, compare_differences}
 use Rattle.plan.specs.Calls.{giving}
-use Rattle.plan.specs.Losses.{Losses}
-use Rattle.plan.specs.Sizes.{most_risks}
 use Rattle.group.specs.Refusals.{answer_is}
 use Rattle.group.specs.declared.Refusal.{Refusal}
 use Rattle.rating.specs.Rates as rates
 use Rattle.guaranteed.specs.declared.Comparison.{Comparison}
-
--- as many risks as a group has, and room for a difference of each
-pub record Differing (rs : List Losses) (room : ℕ) : Type 0 where
-  pub few : length rs ≤ most_risks
-  pub enough : length rs ≤ room
 
 -- what the call gives beside the premiums and the differences
 pub record Parts : Type 0 where

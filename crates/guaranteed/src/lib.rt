@@ -2,7 +2,7 @@
 // guaranteed cost, and what each risk is billed above or below it.
 #![tactic(auto)]
 
-ghost use Rattle.std.specs.Prelude.{◌≡◌, ◌&&◌, [], ◌∷◌, ◌*◌, leb, pos, ◌+ℤ◌, ◌-ℤ◌, length};
+ghost use Rattle.std.specs.Prelude.{◌≡◌, ◌&&◌, [], ◌∷◌, ◌*◌, leb, pos, ◌+ℤ◌, ◌-ℤ◌, ◌≤◌, length};
 ghost use Rattle.std.specs.Int.{w64};
 ghost use Rattle.std.proofs.Common.{SFits};
 ghost use Rattle.plan.specs.Arithmetic.{sum_z};
@@ -13,14 +13,14 @@ ghost use Rattle.group.specs.Refusals.{verdict_is};
 ghost use Rattle.group.specs.Values.{losses_of};
 ghost use Rattle.rating.specs.Bills.{bills_of};
 ghost use Rattle.discount.specs.Schedules.{layers_of};
-ghost use Rattle.guaranteed.specs.Comparisons.{Differing, CompareSays, BesideGiven};
+ghost use Rattle.guaranteed.specs.Comparisons.{CompareSays, BesideGiven};
 
 use discount::discounts::discount_of;
 use discount::schedule::{Schedule, schedule_verdict};
 use gates::open_rating;
-use group::{Losses, Refusal};
+use group::{Refusal, RiskLosses};
 use groupfile::opening::Opened;
-use rating::rates::{GroupFigures, put_bills};
+use rating::rates::{GroupFigures, bill_group};
 use steps::bill::Terms;
 
 // What the call gives beside the premiums and the differences: what Rate gives, the discount, guaranteed cost, and the sum of
@@ -37,7 +37,7 @@ pub struct Comparison {
 fn difference_of(bill: u32, cost: u32) -> i64
     ensures { result ≡ pos bill -ℤ pos cost }
 {
-    bill as i64 - cost as i64
+    i64::from(bill) - i64::from(cost)
 }
 
 // A sum of differences and one more.
@@ -50,14 +50,15 @@ fn sum_of(total: i64, difference: i64) -> i64
 
 // Puts what each risk is billed above or below guaranteed cost into a buffer with room; their sum. It asks nothing and stores
 // nothing else.
-fn put_differences(terms: Terms, losses: &[Losses], cost: u32, out: &mut [i64]) -> i64
-    requires { Differing (losses_of losses.now) (length out.old) }
-    ensures summed { result ≡ sum_z (λ z. z) (differences_of cost (bills_of terms (losses_of losses.now))) }
+fn put_differences(terms: Terms, losses: RiskLosses<'_>, cost: u32, out: &mut [i64]) -> i64
+    requires { length losses.each.now ≤ length out.old }
+    ensures summed { result
+        ≡ sum_z (λ z. z) (differences_of cost (bills_of terms (losses_of losses.entry.each.now))) }
     ensures put { out.new
-        ≡ filled (differences_of cost (bills_of terms (losses_of losses.now))) out.old }
+        ≡ filled (differences_of cost (bills_of terms (losses_of losses.entry.each.now))) out.old }
 {
     let mut total: i64 = 0;
-    for (i, risk) in losses.iter().enumerate() {
+    for (i, risk) in losses.each.iter().enumerate() {
         let bill = terms.bill_of(risk.limited);
         let difference = difference_of(bill, cost);
         out[i] = difference;
@@ -103,15 +104,11 @@ pub fn compare(
     let premium = header.standard_premium;
     let discount = discount_of(schedule, premium);
     let guaranteed = premium - discount;
-    let billed = put_bills(terms, &losses.of_risks, premiums);
-    let difference = put_differences(terms, &losses.of_risks, guaranteed, differences);
+    let lent = losses.lent();
+    let rated = bill_group(terms, lent, premiums);
+    let difference = put_differences(terms, lent, guaranteed, differences);
     Ok(Comparison {
-        rated: GroupFigures {
-            risks: terms.risks,
-            basic: terms.basic,
-            excess: terms.excess,
-            billed,
-        },
+        rated,
         discount,
         guaranteed,
         difference,

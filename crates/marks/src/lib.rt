@@ -7,6 +7,7 @@ ghost use Rattle.plan.specs.Sizes.{most_risks, most_risk_losses, most_mark};
 ghost use Rattle.plan.specs.Header.{standard_premium_field};
 ghost use Rattle.plan.specs.Marks.{loss_ratio_dollars, entry_ratio_dollars, mark_of, dollars};
 ghost use Rattle.marks.specs.Measures.{loss_ratio, entry_ratio, mark_is};
+ghost use Rattle.marks.specs.Bounds.{MarkBounds};
 
 // Limited losses as a ratio of the standard premium: the loss ratio r of documents 001 and 002.
 #[derive(Drop)]
@@ -29,7 +30,7 @@ impl LossRatio {
         requires { (self.0 ≤ most_mark) × (standard_premium < 2 ^ standard_premium_field.width) }
         ensures { result ≡ loss_ratio_dollars (loss_ratio self) standard_premium }
     {
-        ((self.0 as u64) * (standard_premium as u64) / 1000) as u32
+        (u64::from(self.0) * u64::from(standard_premium) / 1000) as u32
     }
 }
 
@@ -39,17 +40,30 @@ impl EntryRatio {
         requires { (self.0 ≤ most_mark) × (0 < risks) × (risks ≤ most_risks) × (limited ≤ most_risk_losses * risks) }
         ensures { result ≡ entry_ratio_dollars (entry_ratio self) risks limited }
     {
-        ((self.0 as u64) * limited / (1000 * (risks as u64))) as u32
+        (u64::from(self.0) * limited / (1000 * u64::from(risks))) as u32
     }
 }
 
-// The mark that the mark kind and its thousandths make: kind 0 a loss ratio, else an entry ratio.
-pub fn mark_of(kind: u32, thousandths: u32) -> Mark
-    ensures { mark_is result ≡ mark_of kind thousandths }
-{
-    if kind == 0 {
-        Mark::OfPremium(LossRatio(thousandths))
-    } else {
-        Mark::OfLosses(EntryRatio(thousandths))
+impl Mark {
+    // The mark that the mark kind and its thousandths make: kind 0 a loss ratio, else an entry ratio.
+    pub fn of_kind(kind: u32, thousandths: u32) -> Mark
+        ensures { mark_is result ≡ mark_of kind thousandths }
+    {
+        if kind == 0 {
+            Mark::OfPremium(LossRatio(thousandths))
+        } else {
+            Mark::OfLosses(EntryRatio(thousandths))
+        }
+    }
+
+    // Step 2: its whole dollars, rounded down, by the measure that it is.
+    pub fn dollars(self, standard_premium: u32, risks: u32, limited: u64) -> u32
+        requires { MarkBounds self standard_premium risks limited }
+        ensures { result ≡ dollars (mark_is self) standard_premium risks limited }
+    {
+        match self {
+            Mark::OfPremium(m) => m.dollars(standard_premium),
+            Mark::OfLosses(m) => m.dollars(limited, risks),
+        }
     }
 }

@@ -14,14 +14,16 @@ use Rattle.plan.specs.Calls.{Answer, given, answer, giving, filled, buffer_after
 use Rattle.plan.proofs.Questions.{after-gate, answered}
 use Rattle.plan.proofs.Demand3.{demand3}
 use Rattle.group.specs.Refusals.{number_of, answer_is}
-use Rattle.group.specs.Values.{losses_is, LossesAre}
+use Rattle.group.specs.Values.{losses_of, LossesAre}
 use Rattle.group.specs.declared.Refusal.{Refusal}
+use Rattle.group.specs.declared.Losses as group
 use Rattle.group.specs.declared.GroupLosses.{GroupLosses}
 use Rattle.steps.specs.Terms.{terms_is}
 use Rattle.steps.specs.declared.bill.Terms.{Terms}
-use Rattle.gates.proofs.Given.{passes, terms-are, risk-count, bills-are}
+use Rattle.gates.proofs.Given.{passes, terms-are, risk-count, lent-bills}
 use Rattle.rating.specs.Bills.{bills_of}
-use Rattle.rating.specs.Rates.{figures_of, RateSays}
+use Rattle.rating.specs.Rates.{figures_of, figures_by, figures_are, RateSays, Demanded}
+use Rattle.rating.specs.declared.rates.GroupFigures.{GroupFigures}
 
 -- ---- the verdict, and a refusal
 
@@ -45,43 +47,49 @@ module _ (s old : List ℕ) where
 
 -- ---- what a rated file's call says
 
+-- where questions 1 to 12 gave terms, and the group's losses are lent as xs
 module _ (s : List ℕ) (t : Terms)
     (gave : answer_is terms_is (Ok t) ≡ answer (first_no (rating_questions s)) (terms_of (header_of s) (losses_in s)))
-    {g : GroupLosses} (losses : LossesAre (losses_in s) g) (old new : List ℕ) {billed : ℕ} (room : 4 * t.risks ≤ length old)
-    (summed : billed ≡ sum (bills_of t (losses_is g))) (put : new ≡ filled (bytes_of (slots 32 (bills_of t (losses_is g)))) old) where
-  is-given : rate s (length old) ≡ given (rated_of (header_of s) (losses_in s))
-  unfolding rate
-  is-given =
-      let enough : 4 * risk_count s ≤ length old = omega (arith, room, risk-count s t gave) in
-      answered (rated_of (header_of s) (losses_in s)) (verdict s old (passes s t gave) (le-leb _ _ enough))
+    {g : GroupLosses} (losses : LossesAre (losses_in s) g) {xs : List group.Losses} (lent : xs ≡ g.of_risks.items) where
+  bills_are : bills_of t (losses_of xs) ≡ billed_premiums (header_of s) (losses_in s)
+  bills_are = lent-bills s t gave losses lent
 
-  billed_is : billed ≡ sum (billed_premiums (header_of s) (losses_in s))
-  billed_is = summed ∙ ap sum (bills-are s t gave losses)
+  module _ (old new : List ℕ) {f : GroupFigures} (room : 4 * t.risks ≤ length old) (figures : f ≡ figures_by t (losses_of xs))
+      (put : new ≡ filled (bytes_of (slots 32 (bills_of t (losses_of xs)))) old) where
+    is-given : rate s (length old) ≡ given (rated_of (header_of s) (losses_in s))
+    unfolding rate
+    is-given =
+        let enough : 4 * risk_count s ≤ length old = omega (arith, room, risk-count s t gave) in
+        answered (rated_of (header_of s) (losses_in s)) (verdict s old (passes s t gave) (le-leb _ _ enough))
 
-  left : new ≡ rate_buffer s old
-  unfolding rated_of
-  left =
-      put ∙ ap (λ (ps : List ℕ). filled (bytes_of (slots 32 ps)) old) (bills-are s t gave losses)
-      ∙ sym (ap (λ (a : Answer Rated). buffer_after premium_bytes a old) is-given)
+    billed_is : sum (bills_of t (losses_of xs)) ≡ sum (billed_premiums (header_of s) (losses_in s))
+    billed_is = ap sum bills_are
 
-  pub given-says : RateSays s old
-      (Ok (record { risks = t.risks; basic = t.basic; excess = t.excess; billed = billed })) new
-  unfolding rated_of
-  given-says = record {
-    answer =
-        (λ i. given (record {
-          risks = (terms-are s t gave i).risks;
-          basic = (terms-are s t gave i).basic;
-          excess = (terms-are s t gave i).excess;
-          billed = billed_is i;
-        }))
-        ∙ sym (ap (giving figures_of) is-given);
-    buffer = left;
-  }
+    left : new ≡ rate_buffer s old
+    unfolding rated_of
+    left =
+        put ∙ ap (λ (ps : List ℕ). filled (bytes_of (slots 32 ps)) old) bills_are
+        ∙ sym (ap (λ (a : Answer Rated). buffer_after premium_bytes a old) is-given)
 
-  pub demanded : Demand3 s t.basic t.excess billed new
-  unfolding rated_of
-  demanded =
-      let d = demand3 s old (rated_of (header_of s) (losses_in s)) t.basic is-given (ap (λ (x : plan.Terms). x.basic) (terms-are s t gave)) in
-      subst₂ (λ (q b : ℕ). Demand3 s t.basic q b new) (sym (ap (λ (x : plan.Terms). x.excess) (terms-are s t gave))) (sym billed_is)
-      (subst (Demand3 s t.basic (terms_of (header_of s) (losses_in s)).excess (sum (billed_premiums (header_of s) (losses_in s)))) (sym left) d)
+    pub given-says : RateSays s old (Ok f) new
+    unfolding rated_of
+    given-says = record {
+      answer =
+          ap (λ (x : GroupFigures). given (figures_are x)) figures
+          ∙ (λ i. given (record {
+            risks = (terms-are s t gave i).risks;
+            basic = (terms-are s t gave i).basic;
+            excess = (terms-are s t gave i).excess;
+            billed = billed_is i;
+          }))
+          ∙ sym (ap (giving figures_of) is-given);
+      buffer = left;
+    }
+
+    pub demanded : Demanded (Ok f) s new
+    unfolding rated_of
+    demanded =
+        let d = demand3 s old (rated_of (header_of s) (losses_in s)) t.basic is-given (ap (λ (x : plan.Terms). x.basic) (terms-are s t gave)) in
+        subst (λ (x : GroupFigures). Demanded (Ok x) s new) (sym figures)
+        (subst₂ (λ (q b : ℕ). Demand3 s t.basic q b new) (sym (ap (λ (x : plan.Terms). x.excess) (terms-are s t gave))) (sym billed_is)
+        (subst (Demand3 s t.basic (terms_of (header_of s) (losses_in s)).excess (sum (billed_premiums (header_of s) (losses_in s)))) (sym left) d))

@@ -8,6 +8,7 @@ use Rattle.std.proofs.Math.ListN.{drop_of_length-le}
 use Rattle.plan.specs.Arithmetic.{sum}
 use Rattle.plan.specs.Field.{slot, slots, total_width, bytes_of, Fitting}
 use Rattle.plan.specs.Losses.{Losses}
+use Rattle.plan.specs.Sizes.{most_risks}
 use Rattle.plan.specs.Premium.{bill_with}
 use Rattle.plan.specs.Calls.{filled}
 use Rattle.plan.proofs.Fields.{Bytes}
@@ -24,11 +25,7 @@ use Rattle.group.specs.declared.Losses as group
 use Rattle.steps.proofs.Bounds.{within}
 use Rattle.steps.specs.Terms.{terms_is}
 use Rattle.steps.specs.declared.bill.Terms.{Terms}
-use Rattle.rating.specs.Bills.{bills_of, Billable}
-
--- each of the code's losses is a risk's
-pub counted : (xs : List group.Losses) → length (losses_of xs) ≡ length xs
-counted xs = length-map xs _
+use Rattle.rating.specs.Bills.{bills_of}
 
 -- the bill that the code makes at an entry of its losses is that of the risk
 pub bill-at : (t : Terms) (xs : List group.Losses) (i : ℕ) (d : group.Losses) → i < length xs
@@ -48,17 +45,17 @@ pub record Billing (bills old : List ℕ) (i p billed : ℕ) (present : List ℕ
   pub sums : billed + sum (drop i bills) ≡ sum bills
   pub puts : Putting old 0 (slots 32 bills) present p (slots 32 (drop i bills))
 
-module _ (t : Terms) (rs : List Losses) (old : List ℕ) (b : Billable rs old) where
+module _ (t : Terms) (xs : List group.Losses) (old : List ℕ) (few : length xs ≤ most_risks) (enough : 4 * length xs ≤ length old) where
   abbrev bills : List ℕ
-  bills = bills_of t rs
+  bills = bills_of t (losses_of xs)
 
-  count : length bills ≡ length rs
-  count = length-map rs _
+  count : length bills ≡ length xs
+  count = length-map (losses_of xs) _ ∙ length-map xs _
 
-  fitting : (xs : List Losses) → Fitting (slots 32 (bills_of t xs))
+  fitting : (rs : List Losses) → Fitting (slots 32 (bills_of t rs))
   fitting = fitting-map 32 (λ (r : Losses). bill_with (terms_is t) r.limited) (λ r. lt_trans (fits t r.limited) (lit< tt))
 
-  wide : total_width (slots 32 bills) ≡ 32 * length rs
+  wide : total_width (slots 32 bills) ≡ 32 * length xs
   wide = omega (arith, width-slots 32 bills, count)
 
   pub billing-starts : Billing bills old 0 0 0 old
@@ -68,14 +65,14 @@ module _ (t : Terms) (rs : List Losses) (old : List ℕ) (b : Billable rs old) w
     sums = omega arith;
     puts =
         putting-starts (record {
-          within = omega (arith, wide, b.enough);
-          reach = omega (arith, wide, b.few);
-          fitting = fitting rs;
+          within = omega (arith, wide, enough);
+          reach = omega (arith, wide, few);
+          fitting = fitting (losses_of xs);
         });
   }
 
   module _ {i p billed : ℕ} {present : List ℕ} (w : Billing bills old i p billed present) where
-    module _ {v : ℕ} (h : i < length rs) (e : v ≡ get_or bills i 0) where
+    module _ {v : ℕ} (h : i < length xs) (e : v ≡ get_or bills i 0) where
       -- the bills to come are the next and those after it
       next : drop i bills ≡ v ∷ drop (i + 1) bills
       next =
@@ -95,7 +92,7 @@ module _ (t : Terms) (rs : List Losses) (old : List ℕ) (b : Billable rs old) w
         puts = putting-more next-put put;
       }
 
-    module _ (h : length rs ≤ i) where
+    module _ (h : length xs ≤ i) where
       none : drop i bills ≡ []
       none = drop_of_length-le bills (omega (arith, h, count))
 
@@ -107,6 +104,6 @@ module _ (t : Terms) (rs : List Losses) (old : List ℕ) (b : Billable rs old) w
 
       pub bills-put : Bytes old → Bytes present → present ≡ filled (bytes_of (slots 32 bills)) old
       bills-put was is =
-          let end : 0 ≡ 8 * (4 * length rs) - p = omega (arith, wrote.place, wide) in
-          fields-put {n = 4 * length rs} (slots 32 bills) (fitting rs) was is wrote
-          (subst (λ (x : ℕ). Put present p x 0 present) end (put-none present p)) (omega (arith, wide)) b.enough
+          let end : 0 ≡ 8 * (4 * length xs) - p = omega (arith, wrote.place, wide) in
+          fields-put {n = 4 * length xs} (slots 32 bills) (fitting (losses_of xs)) was is wrote
+          (subst (λ (x : ℕ). Put present p x 0 present) end (put-none present p)) (omega (arith, wide)) enough

@@ -1,10 +1,14 @@
 -- Rate's answer as document 01's.
 use Rattle.std.specs.Prelude.{◌≡◌, List, ℕ, ℤ, pos, length, Result, Ok, Err}
+use Rattle.plan.specs.Arithmetic.{sum}
+use Rattle.plan.specs.Losses.{Losses}
 use Rattle.plan.specs.Demand3.{Demand3}
 use Rattle.plan.specs.Calls as plan
 use Rattle.plan.specs.Calls.{giving, rate_buffer}
 use Rattle.group.specs.Refusals.{answer_is}
 use Rattle.group.specs.declared.Refusal.{Refusal}
+use Rattle.steps.specs.declared.bill.Terms.{Terms}
+use Rattle.rating.specs.Bills.{bills_of}
 use Rattle.rating.specs.declared.rates.GroupFigures.{GroupFigures}
 
 -- what Rate gives beside the premiums: n, M, Q and the sum billed
@@ -16,6 +20,10 @@ pub record Figures : Type 0 where
 
 abbrev pub figures_of : plan.Rated → Figures
 figures_of r = record { risks = r.risks; basic = r.basic; excess = r.excess; billed = r.billed }
+
+-- the figures of a group by its terms: theirs, and the sum of its bills
+abbrev pub figures_by : Terms → List Losses → GroupFigures
+figures_by t rs = record { risks = t.risks; basic = t.basic; excess = t.excess; billed = sum (bills_of t rs) }
 
 -- the code's figures
 abbrev pub figures_are : GroupFigures → Figures

@@ -1,12 +1,11 @@
 // L, A and K of each risk of a file, for a reader of the bills: what the program `retro` prints beside Rate's results.
-ghost use Rattle.std.specs.Prelude.{◌≡◌, map, length, ◌≤◌};
+ghost use Rattle.std.specs.Prelude.{◌≡◌, map};
 ghost use Rattle.plan.specs.Ratable.{clamp};
-ghost use Rattle.plan.specs.Sizes.{most_risks};
 ghost use Rattle.rating.specs.Details.{DetailsAre};
 
 use arrayvec::ArrayVec;
 use gates::open_rating;
-use group::{GroupLosses, Losses, MOST_RISKS};
+use group::{GroupLosses, MOST_RISKS, RiskLosses};
 use groupfile::opening::Opened;
 use steps::ratable::ratable_of;
 
@@ -18,12 +17,11 @@ pub struct Details {
 }
 
 // K of each limited losses.
-fn ratables_of(losses: &[Losses], minimum: u32, maximum: u32) -> ArrayVec<u32, MOST_RISKS>
-    requires { length losses.now ≤ most_risks }
-    ensures { result.items ≡ map (λ x. clamp minimum maximum x.limited) losses.now }
+fn ratables_of(losses: RiskLosses<'_>, minimum: u32, maximum: u32) -> ArrayVec<u32, MOST_RISKS>
+    ensures { result.items ≡ map (λ x. clamp minimum maximum x.limited) losses.entry.each.now }
 {
     let mut ratables = ArrayVec::new();
-    for risk in losses {
+    for risk in losses.each {
         ratables.push(ratable_of(risk.limited, minimum, maximum));
     }
     ratables
@@ -39,7 +37,7 @@ pub fn details_of(file: &[u8]) -> Details
         ..
     } = open_rating(file);
     let ratables = match terms {
-        Ok(terms) => ratables_of(&losses.of_risks, terms.minimum, terms.maximum),
+        Ok(terms) => ratables_of(losses.lent(), terms.minimum, terms.maximum),
         Err(_) => ArrayVec::new(),
     };
     Details { losses, ratables }

@@ -24,8 +24,8 @@ module _ {h : Header} {g : GroupLosses} (b : GroupIs h g) {n : ℕ} (count : n �
   n_is = count ∙ risks b.losses
 
   -- the terms, once M is known
-  pub terms-are : {basic excess : ℕ} → pos basic ≡ basic_premium (header_is h) (losses_is g)
-      → excess ≡ h.conversion * (g.total - g.limited)
+  pub terms-are : {basic excess c : ℕ} → pos basic ≡ basic_premium (header_is h) (losses_is g)
+      → c ≡ h.conversion → excess ≡ c * (g.total - g.limited)
       → record {
         risks = n;
         conversion = h.conversion;
@@ -37,8 +37,8 @@ module _ {h : Header} {g : GroupLosses} (b : GroupIs h g) {n : ℕ} (count : n �
       }
       ≡ terms_of (header_is h) (losses_is g)
   unfolding excess_charge
-  terms-are is q =
-      let charge = q ∙ (λ i. h.conversion * (b.losses.total i - b.losses.limited i)) in
+  terms-are is e q =
+      let charge = q ∙ (λ i. e i * (b.losses.total i - b.losses.limited i)) in
       λ i. record {
         risks = n_is i;
         conversion = h.conversion;
@@ -49,22 +49,24 @@ module _ {h : Header} {g : GroupLosses} (b : GroupIs h g) {n : ℕ} (count : n �
         maximum = marks.maximum i;
       }
 
-  module _ {sx ss : ℕ} (sx_is : sx ≡ sum_of (λ r. above (1 * r.limited) m.maximum) (losses_is g))
-      (ss_is : ss ≡ sum_of (λ r. below (1 * r.limited) m.minimum) (losses_is g)) where
-    above_is : sx ≡ SX (header_is h) (losses_is g)
-    unfolding SX
-    above_is =
-        sx_is
-        ∙ sum-ext _ (λ r. above r.limited m.maximum) (λ r. omega arith) (losses_is g)
-        ∙ ap (λ (x : ℕ). sum_of (λ (r : Losses). above r.limited x) (losses_is g)) marks.maximum
+  -- what lies above LG and below LH, in all
+  pub above_is : {mark sx : ℕ} → mark ≡ m.maximum → sx ≡ sum_of (λ r. above (1 * r.limited) mark) (losses_is g)
+      → sx ≡ SX (header_is h) (losses_is g)
+  unfolding SX
+  above_is {mark} e is =
+      is
+      ∙ sum-ext _ (λ r. above r.limited mark) (λ r. omega arith) (losses_is g)
+      ∙ ap (λ (x : ℕ). sum_of (λ (r : Losses). above r.limited x) (losses_is g)) (e ∙ marks.maximum)
 
-    below_is : ss ≡ SS (header_is h) (losses_is g)
-    unfolding SS
-    below_is =
-        ss_is
-        ∙ sum-ext _ (λ r. below r.limited m.minimum) (λ r. omega arith) (losses_is g)
-        ∙ ap (λ (x : ℕ). sum_of (λ (r : Losses). below r.limited x) (losses_is g)) marks.minimum
+  pub below_is : {mark ss : ℕ} → mark ≡ m.minimum → ss ≡ sum_of (λ r. below (1 * r.limited) mark) (losses_is g)
+      → ss ≡ SS (header_is h) (losses_is g)
+  unfolding SS
+  below_is {mark} e is =
+      is
+      ∙ sum-ext _ (λ r. below r.limited mark) (λ r. omega arith) (losses_is g)
+      ∙ ap (λ (x : ℕ). sum_of (λ (r : Losses). below r.limited x) (losses_is g)) (e ∙ marks.minimum)
 
+  module _ {sx ss : ℕ} (sx_is : sx ≡ SX (header_is h) (losses_is g)) (ss_is : ss ≡ SS (header_is h) (losses_is g)) where
     pub basic-bounds : BasicBounds n h.expense h.conversion g.total sx ss
     basic-bounds =
         let p = header_is h in
@@ -75,11 +77,11 @@ module _ {h : Header} {g : GroupLosses} (b : GroupIs h g) {n : ℕ} (count : n �
           conversion = b.bounds.sound.conversion;
           conversion_most = b.bounds.sound.conversion_most;
           total = omega (arith, b.losses.total, b.bounds.total, b.bounds.risks);
-          cut_off = omega (arith, above_is, SX-le p rs b.bounds, SA-le p rs b.bounds, b.bounds.risks);
-          made_up = omega (arith, below_is, SS-le p rs b.bounds, b.bounds.risks);
+          cut_off = omega (arith, sx_is, SX-le p rs b.bounds, SA-le p rs b.bounds, b.bounds.risks);
+          made_up = omega (arith, ss_is, SS-le p rs b.bounds, b.bounds.risks);
         }
 
     -- the basic premium of these numbers is M
     pub basic_are : basic_of n h.expense h.conversion g.total sx ss ≡ basic_premium (header_is h) (losses_is g)
     unfolding basic_premium
-    basic_are = λ i. basic_of (n_is i) h.expense h.conversion (b.losses.total i) (above_is i) (below_is i)
+    basic_are = λ i. basic_of (n_is i) h.expense h.conversion (b.losses.total i) (sx_is i) (ss_is i)

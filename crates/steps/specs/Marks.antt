@@ -1,24 +1,9 @@
--- A mark's dollars: the bounds within which they are computed, and LG and LH of a group.
-use Rattle.std.specs.Prelude.{◌≡◌, List, ℕ, ◌*◌, ◌^◌, ◌≤◌, ◌<◌}
-use Rattle.plan.specs.Sizes.{most_risks, most_mark, most_risk_losses}
-use Rattle.plan.specs.Header.{Header, standard_premium_field}
+-- LG and LH of a group.
+use Rattle.std.specs.Prelude.{◌≡◌, List}
+use Rattle.plan.specs.Header.{Header}
 use Rattle.plan.specs.Losses.{Losses}
 use Rattle.plan.specs.Marks.{LG, LH}
-use Rattle.marks.specs.declared.Mark.{Mark}
-use Rattle.marks.specs.declared.Mark.TheVariants.{OfPremium, OfLosses}
 use Rattle.steps.specs.declared.balance.MarkDollars.{MarkDollars}
-
--- a mark's thousandths
-abbrev pub thousandths_of : Mark → ℕ
-thousandths_of (OfPremium m) = m.0
-thousandths_of (OfLosses m) = m.0
-
-pub record MarkBounds (m : Mark) (premium n sa : ℕ) : Type 0 where
-  pub mark : thousandths_of m ≤ most_mark
-  pub premium_most : premium < 2 ^ standard_premium_field.width
-  pub some : 0 < n
-  pub risks : n ≤ most_risks
-  pub limited : sa ≤ most_risk_losses * n
 
 pub record MarksAre (h : Header) (rs : List Losses) (r : MarkDollars) : Type 0 where
   pub maximum : r.maximum ≡ LG h rs

@@ -1,20 +1,18 @@
 // Steps 2 to 5 of a group, and question 12: the terms that its bills share, or the question that failed.
 ghost use Rattle.std.specs.Prelude.{◌≡◌};
-ghost use Rattle.plan.specs.Marks.{dollars};
 ghost use Rattle.plan.specs.Questions.{first_no, balance_questions};
 ghost use Rattle.plan.specs.Calls.{answer};
 ghost use Rattle.plan.specs.Premium.{terms_of};
-ghost use Rattle.marks.specs.Measures.{mark_is};
 ghost use Rattle.group.specs.Refusals.{answer_is};
 ghost use Rattle.group.specs.Values.{header_is, losses_is, GroupIs};
 ghost use Rattle.steps.specs.Terms.{terms_is};
-ghost use Rattle.steps.specs.Marks.{MarkBounds, MarksAre};
+ghost use Rattle.steps.specs.Marks.{MarksAre};
 
 use crate::basic::{basic_of, excess_of};
 use crate::bill::Terms;
 use crate::spread::{above_in_all, below_in_all};
 use group::{GroupLosses, Header, Refusal};
-use marks::{Mark, mark_of};
+use marks::Mark;
 
 // LG and LH.
 #[derive(Clone, Copy)]
@@ -23,27 +21,16 @@ pub(crate) struct MarkDollars {
     pub minimum: u32,
 }
 
-// Step 2: a mark's whole dollars, rounded down, by the measure that it is.
-fn dollars_of(mark: Mark, standard_premium: u32, risks: u32, limited: u64) -> u32
-    requires { MarkBounds mark standard_premium risks limited }
-    ensures { result ≡ dollars (mark_is mark) standard_premium risks limited }
-{
-    match mark {
-        Mark::OfPremium(m) => m.dollars(standard_premium),
-        Mark::OfLosses(m) => m.dollars(limited, risks),
-    }
-}
-
 // Step 2 of a group: LG comes from the maximum mark, LH from the minimum.
 fn marks_of(h: Header, losses: &GroupLosses) -> MarkDollars
     requires { GroupIs h losses.now }
     ensures { MarksAre (header_is h) (losses_is losses.now) result }
 {
     let risks = losses.risks();
-    let highest = mark_of(h.mark_kind, h.maximum_mark);
-    let maximum = dollars_of(highest, h.standard_premium, risks, losses.limited);
-    let lowest = mark_of(h.mark_kind, h.minimum_mark);
-    let minimum = dollars_of(lowest, h.standard_premium, risks, losses.limited);
+    let highest = Mark::of_kind(h.mark_kind, h.maximum_mark);
+    let maximum = highest.dollars(h.standard_premium, risks, losses.limited);
+    let lowest = Mark::of_kind(h.mark_kind, h.minimum_mark);
+    let minimum = lowest.dollars(h.standard_premium, risks, losses.limited);
     MarkDollars { maximum, minimum }
 }
 
@@ -55,11 +42,11 @@ pub fn balance(h: Header, losses: &GroupLosses) -> Result<Terms, Refusal>
 {
     let marks = marks_of(h, losses);
     let risks = losses.risks();
-    let above = above_in_all(&losses.of_risks, 1, marks.maximum as u64);
-    let below = below_in_all(&losses.of_risks, 1, marks.minimum as u64);
-    let n = risks as u64;
-    let c = h.conversion as u64;
-    let Some(basic) = basic_of(n, h.expense as u64, c, losses.total, above, below) else {
+    let above = above_in_all(losses.lent(), 1, u64::from(marks.maximum));
+    let below = below_in_all(losses.lent(), 1, u64::from(marks.minimum));
+    let n = u64::from(risks);
+    let c = u64::from(h.conversion);
+    let Some(basic) = basic_of(n, u64::from(h.expense), c, losses.total, above, below) else {
         return Err(Refusal::NegativeBasic);
     };
     let excess = excess_of(c, losses.total, losses.limited);

@@ -34,10 +34,10 @@ impl Terms {
     pub fn bill_of(&self, limited: u32) -> u32
         ensures { result ≡ bill_with (terms_is self.now) limited }
     {
-        let k = ratable_of(limited, self.minimum, self.maximum) as u64;
-        let n = self.risks as u64;
+        let k = u64::from(ratable_of(limited, self.minimum, self.maximum));
+        let n = u64::from(self.risks);
         let shared = self.basic + self.excess;
-        let numerator = self.tax as u64 * (shared + n * self.conversion as u64 * k);
+        let numerator = u64::from(self.tax) * (shared + n * u64::from(self.conversion) * k);
         ((numerator + PREMIUM_SCALE / 2 * n) / (PREMIUM_SCALE * n)) as u32
     }
 }

@@ -1,30 +1,32 @@
 // What limited losses have above a mark and lack below one, in all: SX and SS of step 3, and the numerators
 // of Table's charge and savings.
-ghost use Rattle.std.specs.Prelude.{◌≡◌, ◌*◌, ◌^◌, ◌≤◌, ◌<◌, length};
+ghost use Rattle.std.specs.Prelude.{◌≡◌, ◌*◌, ◌^◌, ◌≤◌, ◌<◌};
 ghost use Rattle.plan.specs.Sizes.{most_risks};
 ghost use Rattle.plan.specs.Arithmetic.{sum_of, above, below};
 ghost use Rattle.group.specs.Values.{losses_of};
 
-use group::Losses;
+use group::RiskLosses;
 
 // What limited losses, each times `scale`, have above `mark`, in all.
-pub fn above_in_all(losses: &[Losses], scale: u64, mark: u64) -> u64
-    requires { (length losses.now ≤ most_risks) × (scale ≤ 100 * most_risks) }
-    ensures { result ≡ sum_of (λ r. above (scale * r.limited) mark) (losses_of losses.now) }
+pub fn above_in_all(losses: RiskLosses<'_>, scale: u64, mark: u64) -> u64
+    requires { scale ≤ 100 * most_risks }
+    ensures { result ≡ sum_of (λ r. above (scale * r.limited) mark) (losses_of losses.entry.each.now) }
 {
     losses
+        .each
         .iter()
-        .map(|risk| (scale * risk.limited as u64).saturating_sub(mark))
+        .map(|risk| (scale * u64::from(risk.limited)).saturating_sub(mark))
         .sum()
 }
 
 // What they lack below `mark`, in all.
-pub fn below_in_all(losses: &[Losses], scale: u64, mark: u64) -> u64
-    requires { (length losses.now ≤ most_risks) × (scale ≤ 100 * most_risks) × (mark < 2 ^ 44) }
-    ensures { result ≡ sum_of (λ r. below (scale * r.limited) mark) (losses_of losses.now) }
+pub fn below_in_all(losses: RiskLosses<'_>, scale: u64, mark: u64) -> u64
+    requires { (scale ≤ 100 * most_risks) × (mark < 2 ^ 44) }
+    ensures { result ≡ sum_of (λ r. below (scale * r.limited) mark) (losses_of losses.entry.each.now) }
 {
     losses
+        .each
         .iter()
-        .map(|risk| mark.saturating_sub(scale * risk.limited as u64))
+        .map(|risk| mark.saturating_sub(scale * u64::from(risk.limited)))
         .sum()
 }

@@ -59,21 +59,23 @@ module _ {s : List ℕ} {r n sa : ℕ} {rs : List Losses} (x : AtHand s r n sa r
   pub risks-few : n ≤ most_risks
   risks-few = omega (arith, count, bounds.risks)
 
-  pub entry-fits : r * sa < 2 ^ 44
-  entry-fits =
+  -- m is the r that the code has
+  pub entry-fits : {m : ℕ} → m ≡ r → m * sa < 2 ^ 44
+  entry-fits {m} e =
+      let low : m ≤ most_ratio = omega (arith, e, x.ratio) in
       let most : sa ≤ most_group_losses = omega (arith, x.sa_is, losses-le (header_of s) (losses_in s) bounds r x.ratio) in
-      omega (arith, mul-le-mul x.ratio most)
+      omega (arith, mul-le-mul low most)
 
   pub half-fits : 2 * (50 * n * sa) < 2 ^ 64
   half-fits = omega (arith, half_is, charge-lt (header_of s) (losses_in s) bounds r x.ratio)
 
-  pub charge-sum : sum_of (λ a. above (100 * n * a.limited) (r * sa)) rs ≡ charge_sum (losses_in s) r
+  pub charge-sum : {m v : ℕ} → m ≡ r → v ≡ sum_of (λ a. above (100 * n * a.limited) (m * sa)) rs → v ≡ charge_sum (losses_in s) r
   unfolding charge_sum
-  charge-sum = λ i. sum_of (λ (a : Losses). above (100 * count i * a.limited) (r * x.sa_is i)) (x.each i)
+  charge-sum e is = is ∙ (λ i. sum_of (λ (a : Losses). above (100 * count i * a.limited) (e i * x.sa_is i)) (x.each i))
 
-  pub savings-sum : sum_of (λ a. below (100 * n * a.limited) (r * sa)) rs ≡ savings_sum (losses_in s) r
+  pub savings-sum : {m v : ℕ} → m ≡ r → v ≡ sum_of (λ a. below (100 * n * a.limited) (m * sa)) rs → v ≡ savings_sum (losses_in s) r
   unfolding savings_sum
-  savings-sum = λ i. sum_of (λ (a : Losses). below (100 * count i * a.limited) (r * x.sa_is i)) (x.each i)
+  savings-sum e is = is ∙ (λ i. sum_of (λ (a : Losses). below (100 * count i * a.limited) (e i * x.sa_is i)) (x.each i))
 
   half-some : 0 < 50 * n * sa
   half-some =

@@ -44,10 +44,10 @@ pub fn table(file: &[u8], r: u32) -> Result<Ratios, Refusal>
     if r > MOST_RATIO {
         return Err(Refusal::EntryRatio);
     }
-    let n = losses.risks() as u64;
-    let mark = r as u64 * losses.limited;
-    let above = above_in_all(&losses.of_risks, 100 * n, mark);
-    let below = below_in_all(&losses.of_risks, 100 * n, mark);
+    let n = u64::from(losses.risks());
+    let mark = u64::from(r) * losses.limited;
+    let above = above_in_all(losses.lent(), 100 * n, mark);
+    let below = below_in_all(losses.lent(), 100 * n, mark);
     let half = 50 * n * losses.limited;
     Ok(Ratios {
         charge: thousandths_of(above, half, 2 * half),

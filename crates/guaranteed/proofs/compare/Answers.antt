@@ -1,32 +1,32 @@
 -- Questions 1 to 12, then 13, 16 and 17, then the bills of the file's group and each beside guaranteed cost.
-use Rattle.std.proofs.Common.{◌≡◌, refl, sym, ap, ◌∙◌, subst, List, [], ◌∷◌, ◌&&◌, ℕ, ℤ, ◌*◌, ◌-◌, leb, length, arith, w64, to_z-of_z, Ok}
+use Rattle.std.proofs.Common.{◌≡◌, refl, sym, ap, ◌∙◌, List, [], ◌∷◌, ◌&&◌, ℕ, ℤ, ◌*◌, ◌≤◌, ◌-◌, leb, length, arith, w64, to_z, of_z, to_z-of_z, Ok, Err}
 use Rattle.std.proofs.lemmas.Result.{err_from_is_err_and}
-use Rattle.plan.specs.Arithmetic.{sum, sum_z}
-use Rattle.plan.specs.Field.{slots, bytes_of}
+use Rattle.plan.specs.Arithmetic.{sum_z}
 use Rattle.plan.specs.Header.{Header, header_of}
 use Rattle.plan.specs.Losses.{losses_in}
 use Rattle.plan.specs.Premium.{terms_of}
-use Rattle.plan.specs.Questions.{Verdict, passed, first_no, or_else, rating_questions, question13}
-use Rattle.plan.specs.Calls.{answer, filled}
+use Rattle.plan.specs.Questions.{Verdict, passed, failed, first_no, or_else, rating_questions, question13}
+use Rattle.plan.specs.Calls.{answer}
 use Rattle.plan.specs.Discount.{Layer, discount}
 use Rattle.plan.specs.Comparison.{differences_of, schedule_questions}
 use Rattle.plan.proofs.Questions.{refused-failed, rating-sound}
 use Rattle.plan.proofs.FileSizes.{group-bounds}
 use Rattle.plan.proofs.Discounts.{discount_most}
-use Rattle.group.specs.Refusals.{verdict_is, answer_is}
-use Rattle.group.specs.Values.{losses_of, losses_is}
+use Rattle.group.specs.Refusals.{number_of, verdict_is, answer_is}
+use Rattle.group.specs.Values.{losses_of}
 use Rattle.group.specs.declared.Losses as group
+use Rattle.group.specs.declared.Refusal.{Refusal}
 use Rattle.steps.specs.Terms.{terms_is}
 use Rattle.steps.specs.declared.bill.Terms.{Terms}
 use Rattle.gates.specs.Gates.{RatingOpenedIs}
 use Rattle.groupfile.specs.declared.opening.Opened.{Opened}
-use Rattle.gates.proofs.Given.{passes, risks_are, risk-count}
+use Rattle.gates.proofs.Given.{passes, risk-count, as-many}
 use Rattle.discount.specs.Schedules.{layers_of, Discountable}
-use Rattle.rating.specs.Bills.{bills_of, Billable}
-use Rattle.guaranteed.specs.Comparisons.{Differing}
+use Rattle.rating.specs.Bills.{bills_of}
+use Rattle.guaranteed.specs.Comparisons.{CompareSays}
 use Rattle.guaranteed.proofs.Answers.{last_verdict, verdict, refused_says, room, room-too, rates, given-says, beside-given}
 use Rattle.guaranteed.proofs.compare.Goals as goal
-use Rattle.guaranteed.proofs.compare.Goals.{In_ok-schedule_verdict}
+use Rattle.guaranteed.proofs.compare.Goals.{In_ok-terms, In_ok-schedule_verdict, After-put_differences-difference}
 
 -- ---- what is known where the terms of the file s are given
 
@@ -50,76 +50,91 @@ module _ (s : List ℕ) (ls : List Layer) (premiums : List ℕ) (differences : L
           fits = omega (arith, ap (λ (h : Header). h.standard_premium) x.header, (group-bounds s sound.losses.file).premium);
         }
 
-    count : length (losses_is o.losses) ≡ t.risks
-    count = ap length x.losses.each ∙ sym (risks_are s t gave)
-
-    -- and there is room for the bills and the differences of its risks
-    billable : Billable (losses_is o.losses) premiums
-    billable = record {
-      few = omega (arith, count, t.few);
-      enough = omega (arith, count, room s ls t gave x.losses premiums differences all);
-    }
-
-    differing : Differing (losses_is o.losses) (length differences)
-    differing = record {
-      few = omega (arith, count, t.few);
-      enough = omega (arith, count, room-too s ls t gave x.losses premiums differences all);
-    }
-
 -- ---- refusals
 
 pub returns-in_err-terms-clause-says : goal.returns-in_err-terms-clause-says
 returns-in_err-terms-clause-says c =
     let a = c.args in
     let s = a.file.now in
-    let ls = layers_of a.schedule.layers in
     let no =
     refused-failed (first_no (rating_questions s)) (terms_of (header_of s) (losses_in s))
     (sym c.open_rating-terms.ensures.verdict ∙ ap (answer_is terms_is) c.in_err-terms.was) in
     let p = err_from_is_err_and c.from_residual.result c.from_residual.ensures.1 in
-    rw (p.1, p.2) (refused_says s ls a.premiums.now a.differences.now _ (verdict s ls a.premiums.now a.differences.now no refl))
+    rw (p.1, p.2)
+    (refused_says s (layers_of a.schedule.layers) a.premiums.now a.differences.now _
+    (verdict s (layers_of a.schedule.layers) a.premiums.now a.differences.now no refl))
+
+-- past 12
+module _ (c : In_ok-terms) where
+  gave : answer_is terms_is (Ok c.in_ok-terms.terms)
+      ≡ answer (first_no (rating_questions c.args.file.now)) (terms_of (header_of c.args.file.now) (losses_in c.args.file.now))
+  gave = sym (ap (answer_is terms_is) c.in_ok-terms.was) ∙ c.open_rating-terms.ensures.verdict
+
+  -- a No of 13, 16 or 17 is the answer
+  refused : (k : Refusal)
+      → last_verdict c.args.file.now (layers_of c.args.schedule.layers) c.args.premiums.now c.args.differences.now ≡ failed (number_of k)
+      → CompareSays c.args.file.now (layers_of c.args.schedule.layers) c.args.premiums.now c.args.differences.now (Err k)
+      c.args.premiums.now c.args.differences.now
+  refused k e =
+      let a = c.args in
+      let s = a.file.now in
+      let ls = layers_of a.schedule.layers in
+      refused_says s ls a.premiums.now a.differences.now k
+      (verdict s ls a.premiums.now a.differences.now (passes s c.in_ok-terms.terms gave) e)
+
+  -- what 13 comes to, as the code asks it, and 16 and 17 after it
+  last : {v w : Verdict}
+      → first_no (question13 (leb (4 * c.in_ok-terms.terms.risks) (length c.args.premiums.now) && leb c.in_ok-terms.terms.risks (length c.args.differences.now)) ∷ []) ≡ v
+      → first_no (schedule_questions (layers_of c.args.schedule.layers)) ≡ w
+      → last_verdict c.args.file.now (layers_of c.args.schedule.layers) c.args.premiums.now c.args.differences.now ≡ or_else v w
+  last = last_is c.args.file.now (layers_of c.args.schedule.layers) c.args.premiums.now c.args.differences.now c.in_ok-terms.terms gave
 
 pub returns-in_err-room_verdict-clause-says : goal.returns-in_err-room_verdict-clause-says
 returns-in_err-room_verdict-clause-says c =
-    let a = c.args in
-    let s = a.file.now in
-    let ls = layers_of a.schedule.layers in
-    let gave = sym (ap (answer_is terms_is) c.in_ok-terms.was) ∙ c.open_rating-terms.ensures.verdict in
-    let no =
-    last_is s ls a.premiums.now a.differences.now c.in_ok-terms.terms gave (sym c.room_verdict.ensures ∙ ap verdict_is c.in_err-room_verdict.was) refl in
+    let q = (goal.at.returns-in_err-room_verdict-clause-says c).In_ok-terms in
     let p = err_from_is_err_and c.from_residual-in_err-room_verdict.result c.from_residual-in_err-room_verdict.ensures.1 in
-    rw (p.1, p.2) (refused_says s ls a.premiums.now a.differences.now _ (verdict s ls a.premiums.now a.differences.now (passes s c.in_ok-terms.terms gave) no))
+    rw (p.1, p.2) (refused q _ (last q (sym c.room_verdict.ensures ∙ ap verdict_is c.in_err-room_verdict.was) refl))
 
 pub returns-in_err-schedule_verdict-clause-says : goal.returns-in_err-schedule_verdict-clause-says
 returns-in_err-schedule_verdict-clause-says c =
-    let a = c.args in
-    let s = a.file.now in
-    let ls = layers_of a.schedule.layers in
-    let gave = sym (ap (answer_is terms_is) c.in_ok-terms.was) ∙ c.open_rating-terms.ensures.verdict in
-    let no =
-    last_is s ls a.premiums.now a.differences.now c.in_ok-terms.terms gave (sym c.room_verdict.ensures ∙ ap verdict_is c.in_ok-room_verdict.was)
-    (sym c.schedule_verdict.ensures ∙ ap verdict_is c.in_err-schedule_verdict.was) in
+    let q = (goal.at.returns-in_err-schedule_verdict-clause-says c).In_ok-terms in
     let p = err_from_is_err_and c.from_residual-in_err-schedule_verdict.result c.from_residual-in_err-schedule_verdict.ensures.1 in
-    rw (p.1, p.2) (refused_says s ls a.premiums.now a.differences.now _ (verdict s ls a.premiums.now a.differences.now (passes s c.in_ok-terms.terms gave) no))
+    rw (p.1, p.2)
+    (refused q _
+    (last q (sym c.room_verdict.ensures ∙ ap verdict_is c.in_ok-room_verdict.was)
+    (sym c.schedule_verdict.ensures ∙ ap verdict_is c.in_err-schedule_verdict.was)))
 
 -- ---- the result
 
 -- past 13, 16 and 17
 module _ (c : In_ok-schedule_verdict) where
-  gave : answer_is terms_is (Ok c.in_ok-terms.terms)
+  given-terms : answer_is terms_is (Ok c.in_ok-terms.terms)
       ≡ answer (first_no (rating_questions c.args.file.now)) (terms_of (header_of c.args.file.now) (losses_in c.args.file.now))
-  gave = sym (ap (answer_is terms_is) c.in_ok-terms.was) ∙ c.open_rating-terms.ensures.verdict
+  given-terms = sym (ap (answer_is terms_is) c.in_ok-terms.was) ∙ c.open_rating-terms.ensures.verdict
 
   all-passed : last_verdict c.args.file.now (layers_of c.args.schedule.layers) c.args.premiums.now c.args.differences.now ≡ passed
   all-passed =
-      last_is c.args.file.now (layers_of c.args.schedule.layers) c.args.premiums.now c.args.differences.now c.in_ok-terms.terms gave
+      last_is c.args.file.now (layers_of c.args.schedule.layers) c.args.premiums.now c.args.differences.now c.in_ok-terms.terms given-terms
       (sym c.room_verdict.ensures ∙ ap verdict_is c.in_ok-room_verdict.was)
       (sym c.schedule_verdict.ensures ∙ ap verdict_is c.in_ok-schedule_verdict.was)
 
   to-discount : Discountable (layers_of c.args.schedule.layers) c.open_rating-terms.result.header.standard_premium
   to-discount =
-      discountable c.args.file.now (layers_of c.args.schedule.layers) c.args.premiums.now c.args.differences.now c.in_ok-terms.terms gave
+      discountable c.args.file.now (layers_of c.args.schedule.layers) c.args.premiums.now c.args.differences.now c.in_ok-terms.terms given-terms
       c.open_rating-terms.ensures all-passed
+
+  -- and both buffers have room for the losses that are lent
+  enough : {xs : List group.Losses} → xs ≡ c.open_rating-terms.result.losses.of_risks.items
+      → (4 * length xs ≤ length c.args.premiums.now) × (length xs ≤ length c.args.differences.now)
+  enough lent =
+      let s = c.args.file.now in
+      let ls = layers_of c.args.schedule.layers in
+      let t = c.in_ok-terms.terms in
+      let x = c.open_rating-terms.ensures.losses in
+      let many = as-many s t given-terms x lent in (
+        omega (arith, many, room s ls t given-terms x c.args.premiums.now c.args.differences.now all-passed),
+        omega (arith, many, room-too s ls t given-terms x c.args.premiums.now c.args.differences.now all-passed),
+      )
 
 pub discount_of-discount-requires : goal.discount_of-discount-requires
 discount_of-discount-requires c = to-discount c
@@ -133,65 +148,41 @@ overflow_sub-guaranteed c =
       discount_most (layers_of c.args.schedule.layers) (to-discount p).rates c.open_rating-terms.result.header.standard_premium,
     )
 
-pub put_bills-billed-requires : goal.put_bills-billed-requires
-put_bills-billed-requires c =
-    let p = (goal.at.put_bills-billed-requires c).In_ok-schedule_verdict in
-    subst (λ (l : List group.Losses). Billable (losses_of l) c.args.premiums.now) (sym c.deref.ensures.0)
-    (billable c.args.file.now (layers_of c.args.schedule.layers) c.args.premiums.now c.args.differences.now c.in_ok-terms.terms (gave p)
-    c.open_rating-terms.ensures (all-passed p))
+pub bill_group-rated-requires : goal.bill_group-rated-requires
+bill_group-rated-requires c = (enough (goal.at.bill_group-rated-requires c).In_ok-schedule_verdict c.lent-lent.ensures).0
 
 pub put_differences-difference-requires : goal.put_differences-difference-requires
 put_differences-difference-requires c =
-    let p = (goal.at.put_differences-difference-requires c).In_ok-schedule_verdict in
-    subst (λ (l : List group.Losses). Differing (losses_of l) (length c.args.differences.now)) (sym c.deref-2.ensures.0)
-    (differing c.args.file.now (layers_of c.args.schedule.layers) c.args.premiums.now c.args.differences.now c.in_ok-terms.terms (gave p)
-    c.open_rating-terms.ensures (all-passed p))
+    (enough (goal.at.put_differences-difference-requires c).In_ok-schedule_verdict c.lent-lent.ensures).1
 
--- the bills and the differences are of the losses that the gate gave
-module _ (t : Terms) {xs ys : List group.Losses} (e : xs ≡ ys) where
-  of-bills : bills_of t (losses_of xs) ≡ bills_of t (losses_of ys)
-  of-bills = ap (λ (l : List group.Losses). bills_of t (losses_of l)) e
+-- the discount, guaranteed cost and the sum, as the code has them
+module _ (c : After-put_differences-difference) where
+  discounted : c.discount_of-discount.result ≡ discount (layers_of c.args.schedule.layers) (header_of c.args.file.now).standard_premium
+  discounted =
+      c.discount_of-discount.ensures
+      ∙ ap (λ (h : Header). discount (layers_of c.args.schedule.layers) h.standard_premium) c.open_rating-terms.ensures.header
 
-  put-too : (old : List ℕ) {new : List ℕ} → new ≡ filled (bytes_of (slots 32 (bills_of t (losses_of xs)))) old
-      → new ≡ filled (bytes_of (slots 32 (bills_of t (losses_of ys)))) old
-  put-too old p = p ∙ ap (λ (l : List ℕ). filled (bytes_of (slots 32 l)) old) of-bills
+  less : c.open_rating-terms.result.header.standard_premium - c.discount_of-discount.result
+      ≡ (header_of c.args.file.now).standard_premium - c.discount_of-discount.result
+  less = ap (λ (h : Header). h.standard_premium - c.discount_of-discount.result) c.open_rating-terms.ensures.header
 
-  differences-too : (cost : ℕ) (old : List ℤ) {new : List ℤ} → new ≡ filled (differences_of cost (bills_of t (losses_of xs))) old
-      → new ≡ filled (differences_of cost (bills_of t (losses_of ys))) old
-  differences-too cost old p = p ∙ ap (λ (l : List ℕ). filled (differences_of cost l) old) of-bills
+  summed : to_z w64 (of_z w64 c.put_differences-difference.result) ≡ sum_z (λ z. z)
+      (differences_of (c.open_rating-terms.result.header.standard_premium - c.discount_of-discount.result)
+      (bills_of c.in_ok-terms.terms (losses_of c.lent-lent.result.each.now)))
+  summed = to_z-of_z {w = w64} (record { sfits = c.put_differences-difference.type_inv }) ∙ c.put_differences-difference.ensures.summed
 
 pub returns-clause-says : goal.returns-clause-says
 returns-clause-says c =
     let p = (goal.at.returns-clause-says c).In_ok-schedule_verdict in
-    let t = c.in_ok-terms.terms in
-    let x = c.open_rating-terms.ensures in
-    let premium = ap (λ (h : Header). h.standard_premium) x.header in
-    let discount_is = c.discount_of-discount.ensures ∙ ap (discount (layers_of c.args.schedule.layers)) premium in
-    let less = ap (λ (y : ℕ). y - c.discount_of-discount.result) premium in
-    let bills = c.put_bills-billed.ensures in
-    let d = c.put_differences-difference.ensures in
-    let summed =
-    to_z-of_z {w = w64} (record { sfits = c.put_differences-difference.type_inv })
-    ∙ d.summed
-    ∙ ap (λ (l : List ℕ). sum_z (λ z. z) (differences_of (c.open_rating-terms.result.header.standard_premium - c.discount_of-discount.result) l)) (of-bills t c.deref-2.ensures.0) in
-    given-says c.args.file.now (layers_of c.args.schedule.layers) t (gave p) x.losses c.args.premiums.now c.args.differences.now (all-passed p)
-    _ _ _ refl refl refl (bills.summed ∙ ap sum (of-bills t c.deref.ensures.0)) discount_is less summed
-    (put-too t c.deref.ensures.0 _ bills.put) (differences-too t c.deref-2.ensures.0 _ _ d.put)
+    let q = (goal.at.returns-clause-says c).After-put_differences-difference in
+    given-says c.args.file.now (layers_of c.args.schedule.layers) c.in_ok-terms.terms (given-terms p) c.open_rating-terms.ensures.losses
+    c.args.premiums.now c.args.differences.now (all-passed p) c.lent-lent.ensures _ _ _
+    c.bill_group-rated.ensures.figures (discounted q) (less q) (summed q) c.bill_group-rated.ensures.put c.put_differences-difference.ensures.put
 
 pub returns-clause-beside : goal.returns-clause-beside
 returns-clause-beside c =
     let p = (goal.at.returns-clause-beside c).In_ok-schedule_verdict in
-    let t = c.in_ok-terms.terms in
-    let x = c.open_rating-terms.ensures in
-    let premium = ap (λ (h : Header). h.standard_premium) x.header in
-    let discount_is = c.discount_of-discount.ensures ∙ ap (discount (layers_of c.args.schedule.layers)) premium in
-    let less = ap (λ (y : ℕ). y - c.discount_of-discount.result) premium in
-    let bills = c.put_bills-billed.ensures in
-    let d = c.put_differences-difference.ensures in
-    let summed =
-    to_z-of_z {w = w64} (record { sfits = c.put_differences-difference.type_inv })
-    ∙ d.summed
-    ∙ ap (λ (l : List ℕ). sum_z (λ z. z) (differences_of (c.open_rating-terms.result.header.standard_premium - c.discount_of-discount.result) l)) (of-bills t c.deref-2.ensures.0) in
-    beside-given c.args.file.now (layers_of c.args.schedule.layers) t (gave p) x.losses c.args.premiums.now c.args.differences.now (all-passed p)
-    _ _ _ refl refl refl (bills.summed ∙ ap sum (of-bills t c.deref.ensures.0)) discount_is less summed
-    (put-too t c.deref.ensures.0 _ bills.put) (differences-too t c.deref-2.ensures.0 _ _ d.put)
+    let q = (goal.at.returns-clause-beside c).After-put_differences-difference in
+    beside-given c.args.file.now (layers_of c.args.schedule.layers) c.in_ok-terms.terms (given-terms p) c.open_rating-terms.ensures.losses
+    c.args.premiums.now c.args.differences.now (all-passed p) c.lent-lent.ensures _ _ _
+    c.bill_group-rated.ensures.figures (discounted q) (less q) (summed q) c.bill_group-rated.ensures.put c.put_differences-difference.ensures.put

@@ -45,7 +45,7 @@ returns c =
                 let gave = sym (ap (answer_is terms_is) w.in-Ok.is) ∙ x.verdict in
                 ap (λ y. y.items) w.ratables-is
                 ∙ w.ratables_of-ratables.ensures
-                ∙ ap (map (λ (y : group.Losses). clamp t.minimum t.maximum y.limited)) w.deref.ensures.0
+                ∙ ap (map (λ (y : group.Losses). clamp t.minimum t.maximum y.limited)) w.lent.ensures
                 ∙ ratables-are s t gave x.losses
                 ∙ sym (ap (λ (v : Verdict). ratables_after v s) (passes s t gave))
             | in-Err w ↦

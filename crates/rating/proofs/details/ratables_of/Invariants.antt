@@ -6,4 +6,4 @@ use Rattle.rating.proofs.details.ratables_of.Given as goal
 
 abbrev pub invariant-loop-risk : goal.invariant-loop-risk
 invariant-loop-risk l =
-    l.ratables.items ≡ map (λ (x : Losses). clamp l.minimum l.maximum x.limited) (take l.risk-index l.losses)
+    l.ratables.items ≡ map (λ (x : Losses). clamp l.minimum l.maximum x.limited) (take l.risk-index l.losses.each.now)

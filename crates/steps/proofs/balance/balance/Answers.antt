@@ -3,7 +3,8 @@ use Rattle.std.proofs.Common.{◌≡◌, sym, ap, ◌∙◌, subst, pos, true, f
 use Rattle.std.specs.Int.Signed.{non_neg}
 use Rattle.plan.specs.Header as plan
 use Rattle.plan.specs.Losses.{Losses}
-use Rattle.plan.specs.Basic.{basic_premium}
+use Rattle.plan.specs.Ratable.{SX, SS}
+use Rattle.plan.specs.Basic.{basic_of, basic_premium}
 use Rattle.plan.specs.Premium.{Terms, terms_of}
 use Rattle.plan.specs.Questions.{balance_questions, first_no}
 use Rattle.plan.specs.Calls.{Answer, refused, given, answer}
@@ -12,9 +13,9 @@ use Rattle.plan.proofs.GroupSizes.{terms-bounds}
 use Rattle.plan.proofs.Questions.{goes_on, stops, answered}
 use Rattle.group.specs.Values.{header_is, losses_is}
 use Rattle.steps.proofs.Sums.{of-slice}
-use Rattle.steps.proofs.Group.{basic-bounds, basic_are, terms-are}
+use Rattle.steps.proofs.Group.{above_is, below_is, basic-bounds, basic_are, terms-are}
 use Rattle.steps.proofs.balance.balance.Goals as goal
-use Rattle.steps.proofs.balance.balance.Goals.{In-Some}
+use Rattle.steps.proofs.balance.balance.Goals.{In-Some, After-from-3, After-basic_of}
 
 -- ---- what 12 comes to
 
@@ -30,33 +31,43 @@ module _ (h : plan.Header) (rs : List Losses) where
 
 -- ---- the goals
 
+-- SX and SS, as the code has them
+module _ (c : After-from-3) where
+  sx-is : c.above_in_all-above.result ≡ SX (header_is c.args.h) (losses_is c.args.losses.now)
+  sx-is =
+      above_is c.requires c.risks-risks.ensures c.marks_of-marks.ensures c.from.ensures
+      (of-slice _ c.above_in_all-above.ensures c.lent.ensures)
+
+  ss-is : c.below_in_all-below.result ≡ SS (header_is c.args.h) (losses_is c.args.losses.now)
+  ss-is =
+      below_is c.requires c.risks-risks.ensures c.marks_of-marks.ensures c.from-2.ensures
+      (of-slice _ c.below_in_all-below.ensures c.lent-2.ensures)
+
 pub basic_of-requires : goal.basic_of-requires
 basic_of-requires c =
-    basic-bounds c.requires c.risks-risks.ensures c.marks_of-marks.ensures
-    (of-slice _ c.above_in_all-above.ensures c.deref.ensures.0)
-    (of-slice _ c.below_in_all-below.ensures c.deref-2.ensures.0)
+    rw (c.from-3.ensures, c.from-c.ensures)
+    (basic-bounds c.requires (c.from-n.ensures ∙ c.risks-risks.ensures) c.marks_of-marks.ensures (sx-is c) (ss-is c))
+
+-- M by the numbers that the code has
+basic-is : (c : After-basic_of) → basic_of c.from-n.result c.from-3.result c.from-c.result c.args.losses.now.total
+    c.above_in_all-above.result c.below_in_all-below.result
+    ≡ basic_premium (header_is c.args.h) (losses_is c.args.losses.now)
+basic-is c =
+    rw (c.from-3.ensures, c.from-c.ensures)
+    (basic_are c.requires (c.from-n.ensures ∙ c.risks-risks.ensures) c.marks_of-marks.ensures (sx-is c.before) (ss-is c.before))
 
 pub returns-in_default : goal.returns-in_default
-returns-in_default c =
-    let m =
-    basic_are c.requires c.risks-risks.ensures c.marks_of-marks.ensures
-    (of-slice _ c.above_in_all-above.ensures c.deref.ensures.0)
-    (of-slice _ c.below_in_all-below.ensures c.deref-2.ensures.0) in
-    twelve _ _ (ap non_neg (sym m) ∙ c.in_default.ensures)
+returns-in_default c = twelve _ _ (ap non_neg (sym (basic-is (goal.at.returns-in_default c).After-basic_of)) ∙ c.in_default.ensures)
 
--- M, as the code has it
+-- and M as the code has it, where it is given
 m-is : (c : In-Some) → pos c.in-Some.basic ≡ basic_premium (header_is c.args.h) (losses_is c.args.losses.now)
-m-is c =
-    c.in-Some.ensures
-    ∙ basic_are c.requires c.risks-risks.ensures c.marks_of-marks.ensures
-    (of-slice _ c.above_in_all-above.ensures c.deref.ensures.0)
-    (of-slice _ c.below_in_all-below.ensures c.deref-2.ensures.0)
+m-is c = c.in-Some.ensures ∙ basic-is c.before
 
 pub invariant_of-result : goal.invariant_of-result
 invariant_of-result c =
     let m = m-is (goal.at.invariant_of-result c).In-Some in
     let b =
-    subst TermsBounds (sym (terms-are c.requires c.risks-risks.ensures c.marks_of-marks.ensures m c.excess_of-excess.ensures))
+    subst TermsBounds (sym (terms-are c.requires c.risks-risks.ensures c.marks_of-marks.ensures m c.from-c.ensures c.excess_of-excess.ensures))
     (terms-bounds (header_is c.args.h) (losses_is c.args.losses.now) c.requires.bounds (record { not_negative = ap non_neg (sym m) })) in
     record {
       some = b.some;
@@ -70,5 +81,5 @@ invariant_of-result c =
 pub returns : goal.returns
 returns c =
     let m = m-is (goal.at.returns c).In-Some in
-    ap given (terms-are c.requires c.risks-risks.ensures c.marks_of-marks.ensures m c.excess_of-excess.ensures)
+    ap given (terms-are c.requires c.risks-risks.ensures c.marks_of-marks.ensures m c.from-c.ensures c.excess_of-excess.ensures)
     ∙ terms _ _ (ap non_neg (sym m))

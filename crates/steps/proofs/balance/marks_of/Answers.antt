@@ -22,9 +22,9 @@ pub returns : goal.returns
 unfolding LG LH
 returns c = record {
   maximum =
-      c.dollars_of-maximum.ensures
-      ∙ dollars-are c.requires c.mark_of-highest.result _ c.mark_of-highest.ensures c.risks-risks.ensures;
+      c.dollars-maximum.ensures
+      ∙ dollars-are c.requires c.of_kind-highest.result _ c.of_kind-highest.ensures c.risks-risks.ensures;
   minimum =
-      c.dollars_of-minimum.ensures
-      ∙ dollars-are c.requires c.mark_of-lowest.result _ c.mark_of-lowest.ensures c.risks-risks.ensures;
+      c.dollars-minimum.ensures
+      ∙ dollars-are c.requires c.of_kind-lowest.result _ c.of_kind-lowest.ensures c.risks-risks.ensures;
 }

@@ -5,5 +5,5 @@ use Rattle.steps.proofs.spread.above_in_all.Goals as goal
 
 pub returns : goal.returns
 returns c =
-    let e : c.sum.result ≡ sum (map (λ (x : Losses). c.args.scale * x.limited - c.args.mark) c.args.losses.now) = search rules in
-    e ∙ sum-limited (λ a. c.args.scale * a - c.args.mark) c.args.losses.now
+    let e : c.sum.result ≡ sum (map (λ (x : Losses). c.args.scale * x.limited - c.args.mark) c.args.losses.each.now) = search rules in
+    e ∙ sum-limited (λ a. c.args.scale * a - c.args.mark) c.args.losses.each.now

@@ -3,11 +3,11 @@ use Rattle.plan.proofs.Fields.{Bytes}
 use Rattle.group.specs.Values.{losses_of}
 use Rattle.rating.specs.Bills.{bills_of}
 use Rattle.rating.proofs.Billing.{Billing}
-use Rattle.rating.proofs.rates.put_bills.Given as goal
+use Rattle.rating.proofs.rates.bill_group.Given as goal
 
 abbrev pub invariant-loop-risk : goal.invariant-loop-risk
 invariant-loop-risk l = record {
-  billing : Billing (bills_of l.terms (losses_of l.losses)) l.initial.out l.risk-index l.place.at l.billed l.out;
+  billing : Billing (bills_of l.terms (losses_of l.losses.each.now)) l.initial.out l.risk-index l.place.at l.billed l.out;
   bytes : Bytes l.out;
   first : Bytes l.initial.out;
 }
