@@ -1,24 +1,25 @@
 -- Questions 20 and 21, then the charge.
-use Rattle.std.proofs.Common.{◌≡◌, true, false, rules, tests}
-use Rattle.charges.proofs.Answers.{carried, outside, above-ratio, given_is, on-table}
+use Rattle.std.proofs.Common.{ℕ, subst}
+use Rattle.charges.specs.Charges.{ChargeIs}
+use Rattle.charges.proofs.Answers.{outside, above-ratio, given_is, on-table}
 use Rattle.charges.proofs.charge.Goals as goal
+use Rattle.charges.proofs.charge.Goals.{After-charge_at}
 
-pub returns-then-not-contains-clause-says : goal.returns-then-not-contains-clause-says
-returns-then-not-contains-clause-says c =
-    let e : carried c.args.column c.args.entry_ratio ≡ false = search (rules, tests) in
-    outside c.args.column c.args.entry_ratio e
+pub returns-in_default-clause-says : goal.returns-in_default-clause-says
+returns-in_default-clause-says c = outside c.args.column c.args.entry_ratio c.in_default.ensures
 
 pub returns-then-entry_ratio-gt-LAST_RATIO-clause-says : goal.returns-then-entry_ratio-gt-LAST_RATIO-clause-says
 returns-then-entry_ratio-gt-LAST_RATIO-clause-says c =
-    let e : carried c.args.column c.args.entry_ratio ≡ true = search (rules, tests) in
-    above-ratio c.args.column c.args.entry_ratio e c.if-entry_ratio-gt-LAST_RATIO.true
+    above-ratio c.args.column c.args.entry_ratio c.in-Some.ensures.0 c.if-entry_ratio-gt-LAST_RATIO.true
+
+-- the column's hundredths are those that were given
+is : (c : After-charge_at) → ChargeIs c.args.column c.args.entry_ratio c.charge_at.result
+is c = subst (λ (column : ℕ). ChargeIs column c.args.entry_ratio c.charge_at.result) c.in-Some.ensures.1 c.charge_at.ensures
 
 pub returns-clause-says : goal.returns-clause-says
 returns-clause-says c =
-    let e : carried c.args.column c.args.entry_ratio ≡ true = search (rules, tests) in
-    given_is c.args.column c.args.entry_ratio e c.if-entry_ratio-gt-LAST_RATIO.false c.charge_at.result c.charge_at.ensures
+    given_is c.args.column c.args.entry_ratio c.in-Some.ensures.0 c.if-entry_ratio-gt-LAST_RATIO.false c.charge_at.result (is c)
 
 pub returns-clause-table : goal.returns-clause-table
 returns-clause-table c =
-    let e : carried c.args.column c.args.entry_ratio ≡ true = search (rules, tests) in
-    on-table c.args.column c.args.entry_ratio e c.if-entry_ratio-gt-LAST_RATIO.false c.charge_at.result c.charge_at.ensures
+    on-table c.args.column c.args.entry_ratio c.in-Some.ensures.0 c.if-entry_ratio-gt-LAST_RATIO.false c.charge_at.result (is c)
