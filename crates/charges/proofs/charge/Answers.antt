@@ -1,7 +1,7 @@
 -- Questions 20 and 21, then the charge.
-use Rattle.std.proofs.Common.{ℕ, subst}
+use Rattle.std.proofs.Common.{ℕ, subst, rules}
 use Rattle.charges.specs.Charges.{ChargeIs}
-use Rattle.charges.proofs.Answers.{outside, above-ratio, given_is, on-table}
+use Rattle.charges.proofs.Answers.{Carried, outside, above-ratio, given_is, on-table}
 use Rattle.charges.proofs.charge.Goals as goal
 use Rattle.charges.proofs.charge.Goals.{After-charge_at}
 
@@ -10,7 +10,8 @@ returns-in_default-clause-says c = outside c.args.column c.args.entry_ratio c.in
 
 pub returns-then-entry_ratio-gt-LAST_RATIO-clause-says : goal.returns-then-entry_ratio-gt-LAST_RATIO-clause-says
 returns-then-entry_ratio-gt-LAST_RATIO-clause-says c =
-    above-ratio c.args.column c.args.entry_ratio c.in-Some.ensures.0 c.if-entry_ratio-gt-LAST_RATIO.true
+    let e : Carried c.args.column c.args.entry_ratio = search rules in
+    above-ratio c.args.column c.args.entry_ratio e c.if-entry_ratio-gt-LAST_RATIO.true
 
 -- the column's hundredths are those that were given
 is : (c : After-charge_at) → ChargeIs c.args.column c.args.entry_ratio c.charge_at.result
