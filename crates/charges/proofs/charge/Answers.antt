@@ -3,7 +3,6 @@ use Rattle.std.proofs.Common.{ℕ, subst, rules}
 use Rattle.charges.specs.Charges.{ChargeIs}
 use Rattle.charges.proofs.Answers.{Carried, outside, above-ratio, given_is, on-table}
 use Rattle.charges.proofs.charge.Goals as goal
-use Rattle.charges.proofs.charge.Goals.{After-charge_at}
 
 pub returns-in_default-clause-says : goal.returns-in_default-clause-says
 returns-in_default-clause-says c = outside c.args.column c.args.entry_ratio c.in_default.ensures
@@ -13,14 +12,12 @@ returns-then-entry_ratio-gt-LAST_RATIO-clause-says c =
     let e : Carried c.args.column c.args.entry_ratio = search rules in
     above-ratio c.args.column c.args.entry_ratio e c.if-entry_ratio-gt-LAST_RATIO.true
 
--- the column's hundredths are those that were given
-is : (c : After-charge_at) → ChargeIs c.args.column c.args.entry_ratio c.charge_at.result
-is c = subst (λ (column : ℕ). ChargeIs column c.args.entry_ratio c.charge_at.result) c.in-Some.ensures.1 c.charge_at.ensures
-
-pub returns-clause-says : goal.returns-clause-says
-returns-clause-says c =
-    given_is c.args.column c.args.entry_ratio c.in-Some.ensures.0 c.if-entry_ratio-gt-LAST_RATIO.false c.charge_at.result (is c)
-
-pub returns-clause-table : goal.returns-clause-table
-returns-clause-table c =
-    on-table c.args.column c.args.entry_ratio c.in-Some.ensures.0 c.if-entry_ratio-gt-LAST_RATIO.false c.charge_at.result (is c)
+pub returns : goal.returns
+returns c =
+    let a = c.args in
+    let t = c.charge_at.result in
+    let e = c.in-Some.ensures.0 in
+    let b = c.if-entry_ratio-gt-LAST_RATIO.false in
+    let is : ChargeIs a.column a.entry_ratio t =
+    subst (λ (column : ℕ). ChargeIs column a.entry_ratio t) c.in-Some.ensures.1 c.charge_at.ensures in
+    record { says = given_is a.column a.entry_ratio e b t is; table = on-table a.column a.entry_ratio e b t is }
