@@ -3,14 +3,13 @@
 #![tactic(auto)]
 
 ghost use Rattle.std.specs.Prelude.{◌≡◌, ◌≤◌};
-ghost use Rattle.plan.specs.Matrix.{first_column, last_column};
 ghost use Rattle.plan.specs.Charge as table;
 ghost use Rattle.plan.specs.Charge.{charge_double, last_ratio};
 ghost use Rattle.group.specs.Refusals.{answer_is};
 ghost use Rattle.charges.specs.Charges.{ChargeIs, charged_is, OnTableGiven};
 
 use group::Refusal;
-use matrix::{FIRST_COLUMN, LAST_COLUMN, row_of};
+use matrix::Column;
 use std::num::truncating_f64_to_u64;
 
 // The largest entry ratio that is taken, in hundredths.
@@ -24,16 +23,15 @@ pub struct TableCharge {
 }
 
 // The charge of a column at r hundredths.
-fn unrounded(column: usize, hundredths: u32) -> f64
-    requires { (first_column ≤ column) × (column ≤ last_column) }
-    ensures { result ≡ charge_double column hundredths }
+fn unrounded(column: Column, hundredths: u32) -> f64
+    ensures { result ≡ charge_double column.hundredths hundredths }
 {
-    let [b2, b3, b4, b5, b6, b7, b8] = row_of(column);
-    let r = hundredths as f64 / 100.0;
+    let [b2, b3, b4, b5, b6, b7, b8] = column.row();
+    let r = f64::from(hundredths) / 100.0;
     1.0 / (1.0 + r + r * r * (b2 + r * (b3 + r * (b4 + r * (b5 + r * (b6 + r * (b7 + r * b8)))))))
 }
 
-// The greatest whole number from 1 to 1,000 whose double is at most y, or 0 if none is.
+// The greatest whole number from 1 to 1,000 whose double is at most y, or 0 if none is: document 02 defines it as a number, 0 included.
 fn greatest(y: f64) -> u32
     ensures { result ≡ table.greatest 1000 y }
 {
@@ -47,9 +45,9 @@ fn greatest(y: f64) -> u32
 }
 
 // The charge of a column that is carried at an entry ratio that is taken.
-fn charge_at(column: usize, hundredths: u32) -> TableCharge
-    requires { (first_column ≤ column) × (column ≤ last_column) × (hundredths ≤ last_ratio) }
-    ensures { ChargeIs column hundredths result }
+fn charge_at(column: Column, hundredths: u32) -> TableCharge
+    requires { hundredths ≤ last_ratio }
+    ensures { ChargeIs column.hundredths hundredths result }
 {
     let charge = unrounded(column, hundredths);
     let n = greatest((charge + 0.0005) * 1000.0);
@@ -64,11 +62,11 @@ pub fn charge(column: u32, entry_ratio: u32) -> Result<TableCharge, Refusal>
     ensures says { answer_is charged_is result ≡ table.charge1965 column entry_ratio }
     ensures table { OnTableGiven result column entry_ratio }
 {
-    if !(FIRST_COLUMN..=LAST_COLUMN).contains(&column) {
+    let Some(column) = Column::new(column) else {
         return Err(Refusal::Column);
-    }
+    };
     if entry_ratio > LAST_RATIO {
         return Err(Refusal::TableRatio);
     }
-    Ok(charge_at(column as usize, entry_ratio))
+    Ok(charge_at(column, entry_ratio))
 }

@@ -22,7 +22,7 @@ pub const LARGEST_FILE: usize = 42378;
 
 // The header values, loss limit to minimum mark.
 #[repr(C)]
-#[derive(Clone, Copy)]
+#[derive(Clone, Copy, Default)]
 pub struct Header {
     pub loss_limit: u32,
     pub standard_premium: u32,

@@ -4,7 +4,6 @@
 ghost use Rattle.std.specs.Prelude.{◌≡◌, ◌≤◌};
 ghost use Rattle.plan.specs.Matrix.{first_column, last_column};
 ghost use Rattle.plan.specs.Charge.{from_ten_millionths};
-ghost use Rattle.matrix.specs.Rows.{row_double};
 
 // The columns that are carried, in hundredths, how many they are, and how many coefficients each has.
 pub const FIRST_COLUMN: u32 = 36;
@@ -63,13 +62,37 @@ const MATRIX: [[i32; COEFFICIENTS]; COLUMNS] = [
 fn coefficient(ten_millionths: i32) -> f64
     ensures { result ≡ from_ten_millionths ten_millionths }
 {
-    ten_millionths as f64 / 10000000.0
+    f64::from(ten_millionths) / 10000000.0
 }
 
-// The row of a column: b2 to b8.
-pub fn row_of(column: usize) -> [f64; COEFFICIENTS]
-    requires { (first_column ≤ column) × (column ≤ last_column) }
-    ensures { result ≡ row_double column }
-{
-    MATRIX[column - FIRST_COLUMN as usize].map(coefficient)
+// A column that is carried, in hundredths.
+#[derive(Clone, Copy)]
+pub struct Column {
+    pub hundredths: u32,
+    pub ghost least: { first_column ≤ hundredths },
+    pub ghost most: { hundredths ≤ last_column },
+}
+
+impl Column {
+    ghost use Rattle.std.specs.Prelude.{SomeIff, option_map};
+    ghost use Rattle.matrix.specs.Rows.{row_double};
+
+    // The column of any hundredths, if it is carried.
+    pub fn new(hundredths: u32) -> Option<Column>
+        ensures { SomeIff (option_map (λ column. column.hundredths) result)
+            ((first_column ≤ hundredths) × (hundredths ≤ last_column)) hundredths }
+    {
+        if (FIRST_COLUMN..=LAST_COLUMN).contains(&hundredths) {
+            Some(Column { hundredths })
+        } else {
+            None
+        }
+    }
+
+    // Its row: b2 to b8.
+    pub fn row(self) -> [f64; COEFFICIENTS]
+        ensures { result ≡ row_double self.hundredths }
+    {
+        MATRIX[(self.hundredths - FIRST_COLUMN) as usize].map(coefficient)
+    }
 }

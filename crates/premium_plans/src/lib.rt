@@ -2,7 +2,7 @@
 // least the taxed expenses and losses of a file's group, found by trials.
 #![tactic(auto)]
 
-ghost use Rattle.std.specs.Prelude.{◌≡◌, [], ◌∷◌, ◌≤◌, pos, ◌-ℤ◌};
+ghost use Rattle.std.specs.Prelude.{◌≡◌, [], ◌∷◌};
 ghost use Rattle.plan.specs.Questions.{ask, first_no};
 ghost use Rattle.plan.specs.Calls.{answer};
 ghost use Rattle.plan.specs.SoldOnPremiums as plan;
@@ -14,26 +14,14 @@ use gates::open_losses;
 use group::Refusal;
 use groupfile::opening::Opened;
 use steps::basic::excess_of;
-use totals::{PlanTerms, Target, owed_of};
+use totals::{BasicPremium, PlanTerms, Target, owed_of};
 
-// The largest basic premium, in dollars.
-pub const MOST_BASIC: u32 = 1048575;
-
-// The trials made, the best basic premium yet that reaches the total, and the largest known to fall short, −1 if none, as the
-// number lent by C has it.
+// The trials made, the best basic premium yet that reaches the total, and the largest known to fall short, if one is.
 #[derive(Clone, Copy)]
 pub struct PlanFound {
     pub made: u32,
     pub best: u32,
-    pub short_of: i32,
-}
-
-// The number before one of 20 bits, −1 before 0.
-fn before_it(from: u32) -> i32
-    requires { from ≤ most_basic }
-    ensures { result ≡ pos from -ℤ pos 1 }
-{
-    from as i32 - 1
+    pub short_of: Option<u32>,
 }
 
 // The trials, each at the middle, until best is the least that is not known to fall short or as many as are given are made. `from` is that
@@ -42,22 +30,24 @@ fn halve(target: &Target, trials: u32) -> PlanFound
     ensures { plan_is result ≡ halvings (reached_by target.now) trials }
 {
     let mut made: u32 = 0;
-    let mut best = MOST_BASIC;
+    let mut best = BasicPremium::MOST.dollars;
     let mut from: u32 = 0;
     // Two ends close in, and the count is given back: a `while` is plainest.
     while made < trials && from < best {
-        let basic = (best + from - 1) / 2;
+        let basic = BasicPremium {
+            dollars: (best + from - 1) / 2,
+        };
         if target.reaches(basic) {
-            best = basic;
+            best = basic.dollars;
         } else {
-            from = basic + 1;
+            from = basic.dollars + 1;
         }
         made += 1;
     }
     PlanFound {
         made,
         best,
-        short_of: before_it(from),
+        short_of: from.checked_sub(1),
     }
 }
 
@@ -66,7 +56,7 @@ fn search(target: &Target, trials: u32) -> Result<PlanFound, Refusal>
     ensures { answer_is plan_is result
         ≡ answer (first_no (ask 23 (reached_by target.now most_basic) ∷ [])) (halvings (reached_by target.now) trials) }
 {
-    if !target.reaches(MOST_BASIC) {
+    if !target.reaches(BasicPremium::MOST) {
         return Err(Refusal::OutOfReach);
     }
     Ok(halve(target, trials))
@@ -93,7 +83,7 @@ pub fn plan(file: &[u8], maximum: u32, minimum: u32, trials: u32) -> Result<Plan
             risks,
             conversion: header.conversion,
             tax: header.tax,
-            excess: excess_of(header.conversion as u64, losses.total, losses.limited),
+            excess: excess_of(u64::from(header.conversion), losses.total, losses.limited),
             maximum,
             minimum,
         },

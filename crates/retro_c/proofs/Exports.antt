@@ -6,11 +6,11 @@ use Prim.Native.Nat.{ℕ}
 use lib.IntN.{ℤ, pos}
 use lib.Ieee.{Float}
 use lib.ListN.{length}
-use Rattle.plan.specs.Calls.{Answer, refused, given, giving, number_after, Rated, rate, Demand3After, Tabled, table}
+use Rattle.plan.specs.Calls.{Answer, refused, given, giving, number_after, Rated, rate, Demand3After, table}
 use Rattle.plan.specs.File.{Group}
 use Rattle.plan.specs.Calls.{write}
 use Rattle.plan.proofs.Answers.{Gave, giving-refused, giving-given}
-use Rattle.std.proofs.Common.{Result, Ok, Err}
+use Rattle.std.proofs.Common.{Ok, Err}
 use Rattle.group.specs.Refusals.{number_of, answer_is}
 use Rattle.group.specs.Values.{header_is}
 use Rattle.group.specs.declared.Refusal.{Refusal}
@@ -33,8 +33,15 @@ use Rattle.plan.specs.Charge.{Charged, charge1965, OnTableAfter}
 use Rattle.charges.specs.Charges.{charged_is, OnTableGiven}
 use Rattle.charges.specs.declared.TableCharge as charging
 use Rattle.plan.specs.SoldOnPremiums.{Plan, plan_for, SoldAfter}
-use Rattle.premium_plans.specs.PremiumPlans.{plan_is, SoldBy}
+use Rattle.premium_plans.specs.PremiumPlans.{plan_is, short_is, SoldBy}
 use Rattle.premium_plans.specs.declared.PlanFound as planning
+
+-- a lent number after a refusal, and after what was given, of which the number is a part
+kept : {A B : Type 0} (number : A → B) (old : B) {a : Answer A} {k : ℕ} → a ≡ refused k → old ≡ number_after number a old
+kept {A} number old e = sym (ap (λ (x : Answer A). number_after number x old) e)
+
+set_to : {A B : Type 0} (number : A → B) (old : B) {a : Answer A} {v : A} {new : B} → a ≡ given v → number v ≡ new → new ≡ number_after number a old
+set_to {A} number old e p = sym (ap (λ (x : Answer A). number_after number x old) e ∙ p)
 
 -- ---- Rate
 
@@ -47,10 +54,10 @@ module _ (s old new : List ℕ) where
       let e : rated ≡ refused (number_of r) = giving-refused figures_of rated x.answer in
       record {
         code_is = sym (ap code_of e);
-        risks_are = sym (ap (λ (a : Answer Rated). number_after (λ r. r.risks) a lent.risks) e);
+        risks_are = kept _ _ e;
         basic_after = subst (λ (a : Answer Rated). BasicAfter a lent.basic lent.basic) (sym e) refl;
-        excess_is = sym (ap (λ (a : Answer Rated). number_after (λ r. r.excess) a lent.excess) e);
-        billed_is = sym (ap (λ (a : Answer Rated). number_after (λ r. r.billed) a lent.billed) e);
+        excess_is = kept _ _ e;
+        billed_is = kept _ _ e;
         buffer_is = x.buffer;
       }
 
@@ -69,13 +76,10 @@ module _ (s old new : List ℕ) where
         let f = gave.part in
         record {
           code_is = sym (ap code_of e);
-          risks_are =
-              sym (ap (λ (a : Answer Rated). number_after (λ r. r.risks) a lent.risks) e ∙ ap (λ (y : Figures). y.risks) f);
+          risks_are = set_to _ _ e (ap (λ (y : Figures). y.risks) f);
           basic_after = subst (λ (a : Answer Rated). BasicAfter a lent.basic g.basic) (sym e) (sym (ap (λ (y : Figures). y.basic) f));
-          excess_is =
-              sym (ap (λ (a : Answer Rated). number_after (λ r. r.excess) a lent.excess) e ∙ ap (λ (y : Figures). y.excess) f);
-          billed_is =
-              sym (ap (λ (a : Answer Rated). number_after (λ r. r.billed) a lent.billed) e ∙ ap (λ (y : Figures). y.billed) f);
+          excess_is = set_to _ _ e (ap (λ (y : Figures). y.excess) f);
+          billed_is = set_to _ _ e (ap (λ (y : Figures). y.billed) f);
           buffer_is = x.buffer;
         }
 
@@ -87,18 +91,14 @@ module _ (s old new : List ℕ) where
 module _ (s : List ℕ) (r : ℕ) where
   pub table-refused : (why : Refusal) (charge savings : ℕ) → answer_is ratios_are (Err why) ≡ table s r
       → TableExported s r (number_of why) charge charge savings savings
-  table-refused why charge savings e = record {
-    code_is = ap code_of e;
-    charge_is = ap (λ (a : Answer Tabled). number_after (λ t. t.charge) a charge) e;
-    savings_is = ap (λ (a : Answer Tabled). number_after (λ t. t.savings) a savings) e;
-  }
+  table-refused why charge savings e = record { code_is = ap code_of e; charge_is = kept _ _ (sym e); savings_is = kept _ _ (sym e) }
 
   pub table-given : (t : tabling.Ratios) (charge savings : ℕ) → answer_is ratios_are (Ok t) ≡ table s r
       → TableExported s r 0 charge t.charge savings t.savings
   table-given t charge savings e = record {
     code_is = ap code_of e;
-    charge_is = ap (λ (a : Answer Tabled). number_after (λ t. t.charge) a charge) e;
-    savings_is = ap (λ (a : Answer Tabled). number_after (λ t. t.savings) a savings) e;
+    charge_is = set_to _ _ (sym e) refl;
+    savings_is = set_to _ _ (sym e) refl;
   }
 
 -- ---- Read
@@ -133,7 +133,7 @@ module _ (g : Group) (old new : List ℕ) where
       let e = giving-refused length (write g (length old)) x.answer in
       record {
         code_is = sym (ap code_of e);
-        size_is = sym (ap (λ (a : Answer (List ℕ)). number_after length a lent) e);
+        size_is = kept _ _ e;
         buffer_is = x.buffer;
       }
 
@@ -142,18 +142,11 @@ module _ (g : Group) (old new : List ℕ) where
       let gave = giving-given length (write g (length old)) x.answer in
       record {
         code_is = sym (ap code_of gave.is);
-        size_is = sym (ap (λ (a : Answer (List ℕ)). number_after length a lent) gave.is ∙ gave.part);
+        size_is = set_to _ _ gave.is gave.part;
         buffer_is = x.buffer;
       }
 
 -- ---- guaranteed cost beside Rate
-
--- a lent number after a refusal, and after what was given, of which the number is a part
-kept : {A B : Type 0} (number : A → B) (old : B) {a : Answer A} {k : ℕ} → a ≡ refused k → old ≡ number_after number a old
-kept {A} number old e = sym (ap (λ (x : Answer A). number_after number x old) e)
-
-set_to : {A B : Type 0} (number : A → B) (old : B) {a : Answer A} {v : A} {new : B} → a ≡ given v → number v ≡ new → new ≡ number_after number a old
-set_to {A} number old e p = sym (ap (λ (x : Answer A). number_after number x old) e ∙ p)
 
 module _ (s : List ℕ) (ls : List Layer) (old_premiums : List ℕ) (old_differences : List ℤ) (premiums : List ℕ) (differences : List ℤ) where
   abbrev compared : Answer Comparison
@@ -165,13 +158,13 @@ module _ (s : List ℕ) (ls : List Layer) (old_premiums : List ℕ) (old_differe
       let e : compared ≡ refused (number_of r) = giving-refused parts_of compared x.answer in
       record {
         code_is = sym (ap code_of e);
-        risks_are = kept (λ (c : Comparison). c.rated.risks) f.risks e;
+        risks_are = kept _ _ e;
         basic_after = subst (λ (a : Answer Comparison). BasicAfter (giving (λ c. c.rated) a) f.basic f.basic) (sym e) refl;
-        excess_is = kept (λ (c : Comparison). c.rated.excess) f.excess e;
-        billed_is = kept (λ (c : Comparison). c.rated.billed) f.billed e;
-        discount_is = kept (λ (c : Comparison). c.discount) f.discount e;
-        guaranteed_is = kept (λ (c : Comparison). c.guaranteed) f.guaranteed e;
-        difference_is = kept (λ (c : Comparison). c.difference) f.difference e;
+        excess_is = kept _ _ e;
+        billed_is = kept _ _ e;
+        discount_is = kept _ _ e;
+        guaranteed_is = kept _ _ e;
+        difference_is = kept _ _ e;
         premiums_are = x.premiums_after;
         differences_are = x.differences_after;
       }
@@ -192,15 +185,15 @@ module _ (s : List ℕ) (ls : List Layer) (old_premiums : List ℕ) (old_differe
         let p = all-given.part in
         record {
           code_is = sym (ap code_of e);
-          risks_are = set_to (λ (c : Comparison). c.rated.risks) f.risks e (ap (λ (y : guaranteed.Parts). y.rated.risks) p);
+          risks_are = set_to _ _ e (ap (λ (y : guaranteed.Parts). y.rated.risks) p);
           basic_after =
               subst (λ (a : Answer Comparison). BasicAfter (giving (λ c. c.rated) a) f.basic g.rated.basic) (sym e)
               (sym (ap (λ (y : guaranteed.Parts). y.rated.basic) p));
-          excess_is = set_to (λ (c : Comparison). c.rated.excess) f.excess e (ap (λ (y : guaranteed.Parts). y.rated.excess) p);
-          billed_is = set_to (λ (c : Comparison). c.rated.billed) f.billed e (ap (λ (y : guaranteed.Parts). y.rated.billed) p);
-          discount_is = set_to (λ (c : Comparison). c.discount) f.discount e (ap (λ (y : guaranteed.Parts). y.discount) p);
-          guaranteed_is = set_to (λ (c : Comparison). c.guaranteed) f.guaranteed e (ap (λ (y : guaranteed.Parts). y.guaranteed) p);
-          difference_is = set_to (λ (c : Comparison). c.difference) f.difference e (ap (λ (y : guaranteed.Parts). y.difference) p);
+          excess_is = set_to _ _ e (ap (λ (y : guaranteed.Parts). y.rated.excess) p);
+          billed_is = set_to _ _ e (ap (λ (y : guaranteed.Parts). y.rated.billed) p);
+          discount_is = set_to _ _ e (ap (λ (y : guaranteed.Parts). y.discount) p);
+          guaranteed_is = set_to _ _ e (ap (λ (y : guaranteed.Parts). y.guaranteed) p);
+          difference_is = set_to _ _ e (ap (λ (y : guaranteed.Parts). y.difference) p);
           premiums_are = x.premiums_after;
           differences_are = x.differences_after;
         }
@@ -215,8 +208,8 @@ module _ (column r : ℕ) where
       → ChargeExported column r (number_of why) x x n n
   charge-refused why x n e = record {
     code_is = ap code_of e;
-    charge_is = kept (λ (c : Charged). c.unrounded) x (sym e);
-    thousandths_are = kept (λ (c : Charged). c.in_thousandths) n (sym e);
+    charge_is = kept _ _ (sym e);
+    thousandths_are = kept _ _ (sym e);
   }
 
   -- of a refusal nothing more is said
@@ -228,8 +221,8 @@ module _ (column r : ℕ) where
     pub charge-given : (x : Float) (n : ℕ) → ChargeExported column r 0 x t.charge n t.thousandths
     charge-given x n = record {
       code_is = ap code_of e;
-      charge_is = set_to (λ (c : Charged). c.unrounded) x (sym e) refl;
-      thousandths_are = set_to (λ (c : Charged). c.in_thousandths) n (sym e) refl;
+      charge_is = set_to _ _ (sym e) refl;
+      thousandths_are = set_to _ _ (sym e) refl;
     }
 
     pub on-table : OnTableGiven (Ok t) column r → OnTableAfter (charge1965 column r) column r t.charge t.thousandths
@@ -243,14 +236,14 @@ module _ (s : List ℕ) (g h trials : ℕ) where
 
   module _ (r : Refusal) (e : answer_is plan_is (Err r) ≡ planned) where
     pub plan-refused : (lent : Plan) → PlanExported planned (number_of r) lent lent
-    plan-refused lent = record { code_is = ap code_of e; numbers_are = kept (λ (p : Plan). p) lent (sym e) }
+    plan-refused lent = record { code_is = ap code_of e; numbers_are = kept _ _ (sym e) }
 
     pub refused-sold : (made best : ℕ) (short : ℤ) → SoldBy (Err r) s g h trials → SoldAfter planned s g h trials made best short
     refused-sold made best short x = subst (λ (a : Answer Plan). SoldAfter a s g h trials made best short) e x
 
   module _ (p : planning.PlanFound) (e : answer_is plan_is (Ok p) ≡ planned) where
     pub plan-given : (lent : Plan) → PlanExported planned 0 lent (plan_is p)
-    plan-given lent = record { code_is = ap code_of e; numbers_are = set_to (λ (q : Plan). q) lent (sym e) refl }
+    plan-given lent = record { code_is = ap code_of e; numbers_are = set_to _ _ (sym e) refl }
 
-    pub given-sold : SoldBy (Ok p) s g h trials → SoldAfter planned s g h trials p.made p.best p.short_of
-    given-sold x = subst (λ (a : Answer Plan). SoldAfter a s g h trials p.made p.best p.short_of) e x
+    pub given-sold : SoldBy (Ok p) s g h trials → SoldAfter planned s g h trials p.made p.best (short_is p.short_of)
+    given-sold x = subst (λ (a : Answer Plan). SoldAfter a s g h trials p.made p.best (short_is p.short_of)) e x

@@ -2,7 +2,7 @@
 use Rattle.std.specs.Prelude.{◌≡◌, List, ℕ, ℤ, pos, Float, length}
 use Rattle.plan.specs.Header as plan
 use Rattle.plan.specs.File.{Group}
-use Rattle.plan.specs.Calls.{Answer, refused, given, giving, number_after, Rated, rate, rate_buffer, Tabled, table, read_counts, read_claims}
+use Rattle.plan.specs.Calls.{Answer, refused, given, giving, number_after, Rated, rate, rate_buffer, table, read_counts, read_claims}
 use Rattle.plan.specs.Calls.{read_joined, write, write_buffer, write_length, buffer_after, premium_bytes}
 use Rattle.plan.specs.Comparison.{Comparison, NumbersGiven}
 use Rattle.plan.specs.Charge.{charge1965}
@@ -50,14 +50,16 @@ abbrev pub refusal : ℕ → RetroGroup
 refusal k = record {
   refused = k;
   risks = 0;
-  loss_limit = 0;
-  standard_premium = 0;
-  expense = 0;
-  conversion = 0;
-  tax = 0;
-  mark_kind = 0;
-  maximum_mark = 0;
-  minimum_mark = 0;
+  header = record {
+    loss_limit = 0;
+    standard_premium = 0;
+    expense = 0;
+    conversion = 0;
+    tax = 0;
+    mark_kind = 0;
+    maximum_mark = 0;
+    minimum_mark = 0;
+  };
   edition = 0;
 }
 
@@ -66,14 +68,16 @@ abbrev pub accepted : ℕ → ℕ → plan.Header → RetroGroup
 accepted edition n h = record {
   refused = 0;
   risks = n;
-  loss_limit = h.loss_limit;
-  standard_premium = h.standard_premium;
-  expense = h.expense;
-  conversion = h.conversion;
-  tax = h.tax;
-  mark_kind = h.mark_kind;
-  maximum_mark = h.maximum_mark;
-  minimum_mark = h.minimum_mark;
+  header = record {
+    loss_limit = h.loss_limit;
+    standard_premium = h.standard_premium;
+    expense = h.expense;
+    conversion = h.conversion;
+    tax = h.tax;
+    mark_kind = h.mark_kind;
+    maximum_mark = h.maximum_mark;
+    minimum_mark = h.minimum_mark;
+  };
   edition = edition;
 }
 

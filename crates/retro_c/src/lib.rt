@@ -19,20 +19,14 @@ use discount::schedule::Schedule;
 use group::Header;
 use guaranteed::compare;
 
-// Read's answer: 0 or the refusal, n, the header values and the edition; where it is a refusal all else is 0.
+// Read's answer: 0 or the refusal, n, the header values and the edition, which is the number that C gets; where it is a refusal all else
+// is 0. The C struct has the header's fields in their place, which is the same layout.
 #[repr(C)]
-#[derive(Clone, Copy)]
+#[derive(Clone, Copy, Default)]
 pub struct RetroGroup {
     pub refused: u32,
     pub risks: u32,
-    pub loss_limit: u32,
-    pub standard_premium: u32,
-    pub expense: u32,
-    pub conversion: u32,
-    pub tax: u32,
-    pub mark_kind: u32,
-    pub maximum_mark: u32,
-    pub minimum_mark: u32,
+    pub header: Header,
     pub edition: u32,
 }
 
@@ -100,37 +94,18 @@ pub extern "C" fn retro_read(
     match reading::read(file, counts, claims, joined) {
         Err(refusal) => RetroGroup {
             refused: refusal.into(),
-            risks: 0,
-            loss_limit: 0,
-            standard_premium: 0,
-            expense: 0,
-            conversion: 0,
-            tax: 0,
-            mark_kind: 0,
-            maximum_mark: 0,
-            minimum_mark: 0,
-            edition: 0,
+            ..RetroGroup::default()
         },
-        Ok(g) => {
-            let v = g.header;
-            RetroGroup {
-                refused: 0,
-                risks: g.risks,
-                loss_limit: v.loss_limit,
-                standard_premium: v.standard_premium,
-                expense: v.expense,
-                conversion: v.conversion,
-                tax: v.tax,
-                mark_kind: v.mark_kind,
-                maximum_mark: v.maximum_mark,
-                minimum_mark: v.minimum_mark,
-                edition: g.edition,
-            }
-        }
+        Ok(g) => RetroGroup {
+            refused: 0,
+            risks: g.risks,
+            header: g.header,
+            edition: g.edition,
+        },
     }
 }
 
-// Write: 0, the file's length and its bytes; or the number of the first question that failed.
+// Write: 0, the file's length and its bytes; or the number of the first question that failed. The edition is the number that C gives.
 #[unsafe(no_mangle)]
 pub extern "C" fn retro_write(
     edition: u32,
@@ -244,7 +219,11 @@ pub extern "C" fn retro_plan(
     match premium_plans::plan(file, maximum, minimum, trials) {
         Err(refusal) => refusal.into(),
         Ok(p) => {
-            let short = p.short_of;
+            // The number that C gets where none is known to fall short is −1.
+            let short = match p.short_of {
+                Some(short) => short as i32,
+                None => -1,
+            };
             *made = p.made;
             *best = p.best;
             *short_of = short;

@@ -5,12 +5,25 @@
 ghost use Rattle.std.specs.Prelude.{◌*◌, ◌≤◌};
 ghost use Rattle.std.specs.List.{All};
 ghost use Rattle.plan.specs.Sizes.{most_risks, most_risk_losses, most_group_losses};
+ghost use Rattle.plan.specs.SoldOnPremiums.{most_basic};
 
 mod owed;
 
 use group::Losses;
 pub use owed::owed_of;
 use steps::bill::PREMIUM_SCALE;
+
+// A basic premium of whole dollars, within the range in which one is looked for.
+#[derive(Clone, Copy)]
+pub struct BasicPremium {
+    pub dollars: u32,
+    pub ghost most: { dollars ≤ most_basic },
+}
+
+impl BasicPremium {
+    // The largest.
+    pub const MOST: BasicPremium = BasicPremium { dollars: 1048575 };
+}
 
 // What the premiums of a plan share: n, c, T, Q, and the maximum and the minimum premium, G and H, in dollars. A premium by them fits
 // 64 bits, whatever G and H are.
@@ -40,46 +53,44 @@ pub struct Target<'a> {
 impl PlanTerms {
     ghost use Rattle.std.specs.Prelude.{◌≡◌, ◌≤◌};
     ghost use Rattle.plan.specs.Sizes.{most_risk_losses};
-    ghost use Rattle.plan.specs.SoldOnPremiums.{held_premium, most_basic};
+    ghost use Rattle.plan.specs.SoldOnPremiums.{held_premium};
     ghost use Rattle.totals.specs.Totals.{plan_terms_is};
 
     // The premium, times 10,000,000 × n, of a risk by its limited losses and a basic premium, held between minimum and maximum.
-    fn held_premium(&self, basic: u32, limited: u32) -> u64
-        requires { (basic ≤ most_basic) × (limited ≤ most_risk_losses) }
-        ensures { result ≡ held_premium (plan_terms_is self.now) basic limited }
+    fn held_premium(&self, basic: BasicPremium, limited: u32) -> u64
+        requires { limited ≤ most_risk_losses }
+        ensures { result ≡ held_premium (plan_terms_is self.now) basic.dollars limited }
     {
-        let n = self.risks as u64;
+        let n = u64::from(self.risks);
         let dollar = PREMIUM_SCALE * n;
-        let shared = 1000 * n * basic as u64 + self.excess;
-        let premium = self.tax as u64 * (shared + n * self.conversion as u64 * limited as u64);
-        let minimum = dollar * self.minimum as u64;
-        let maximum = dollar * self.maximum as u64;
+        let shared = 1000 * n * u64::from(basic.dollars) + self.excess;
+        let losses = n * u64::from(self.conversion) * u64::from(limited);
+        let premium = u64::from(self.tax) * (shared + losses);
+        let minimum = dollar * u64::from(self.minimum);
+        let maximum = dollar * u64::from(self.maximum);
         // H may be above G here, so it is no `clamp`.
         premium.max(minimum).min(maximum)
     }
 }
 
 impl Target<'_> {
-    ghost use Rattle.std.specs.Prelude.{◌≡◌, ◌≤◌};
-    ghost use Rattle.plan.specs.SoldOnPremiums.{most_basic};
+    ghost use Rattle.std.specs.Prelude.{◌≡◌};
     ghost use Rattle.group.specs.Values.{losses_of};
     ghost use Rattle.totals.specs.Totals.{total_by, reaches_by};
 
     // The total of the premiums of the risks.
-    fn total(&self, basic: u32) -> u128
-        requires { basic ≤ most_basic }
-        ensures { result ≡ total_by self.now.terms (losses_of self.now.losses.now) basic }
+    fn total(&self, basic: BasicPremium) -> u128
+        ensures { result ≡ total_by self.now.terms (losses_of self.now.losses.now) basic.dollars }
     {
         self.losses
             .iter()
-            .map(|risk| self.terms.held_premium(basic, risk.limited) as u128)
+            .map(|risk| u128::from(self.terms.held_premium(basic, risk.limited)))
             .sum()
     }
 
     // Whether the premiums of a basic premium total at least what they are to pay.
-    pub fn reaches(&self, basic: u32) -> bool
-        requires { basic ≤ most_basic }
-        ensures { result ≡ reaches_by self.now.terms (losses_of self.now.losses.now) self.now.owed basic }
+    pub fn reaches(&self, basic: BasicPremium) -> bool
+        ensures { result ≡ reaches_by self.now.terms (losses_of self.now.losses.now) self.now.owed basic.dollars }
     {
         self.total(basic) >= self.owed
     }

@@ -7,7 +7,7 @@ pub fn owed_of(risks: u32, tax: u32, expense: u32, total: u64) -> u128
     requires { OwedBounds risks tax expense total }
     ensures { result ≡ 1000 * risks * tax * (risks * expense + total) }
 {
-    let n = risks as u64;
-    let owed = n * tax as u64 * (n * expense as u64 + total);
-    1000 * owed as u128
+    let n = u64::from(risks);
+    let owed = n * u64::from(tax) * (n * u64::from(expense) + total);
+    1000 * u128::from(owed)
 }

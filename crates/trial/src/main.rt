@@ -13,11 +13,6 @@ fn print_refused(rt: &impl Print, refusal: Refusal) -> io::Result<()> {
     println!(rt; " refused {refusal}")
 }
 
-// The first n bytes, or all where there are fewer.
-fn first(s: &[u8], n: usize) -> &[u8] {
-    if n <= s.len() { &s[..n] } else { s }
-}
-
 fn print_line(rt: &impl Print, s: &[u8]) -> io::Result<()> {
     print_bytes(rt, s)?;
     println!(rt)
@@ -56,12 +51,13 @@ fn show_write(
         h,
         counts,
         claims,
-        first(&none, claims.len()),
+        none.get(..claims.len()).unwrap_or(&none),
         out,
     )
 }
 
-// Write: the length, or the refusal; the length, 0 where it is refused.
+// Write: the length, or the refusal; the length, 0 where it is refused. The edition is a number, since what Write refuses of edition 3 is
+// shown too.
 fn show_edition(
     rt: &impl Print,
     label: &str,
@@ -153,8 +149,18 @@ fn rate_four(rt: &impl Print, file: &[u8], longer: &[u8]) -> io::Result<()> {
     let mut premiums = [0u8; 16];
     let mut short = [0u8; 15];
     show_rate(rt, "four, 15 bytes", file, &mut short)?;
-    show_rate(rt, "four, 15 bytes of it", first(file, 15), &mut premiums)?;
-    show_rate(rt, "four, 33 bytes of it", first(file, 33), &mut premiums)?;
+    show_rate(
+        rt,
+        "four, 15 bytes of it",
+        file.get(..15).unwrap_or(file),
+        &mut premiums,
+    )?;
+    show_rate(
+        rt,
+        "four, 33 bytes of it",
+        file.get(..33).unwrap_or(file),
+        &mut premiums,
+    )?;
     show_rate(rt, "four, a zero byte added", longer, &mut premiums)?;
     show_rate(rt, "four, 16 bytes", file, &mut premiums)
 }
@@ -190,7 +196,7 @@ fn four_risks(rt: &impl Print) -> io::Result<()> {
         &[3000, 1000, 7000, 5000, 6000, 2000],
         &mut out,
     )?;
-    let file = first(&out, n);
+    let file = out.get(..n).unwrap_or(&out);
     print_line(rt, file)?;
     read_four(rt, file)?;
     rate_four(rt, file, &out)?;

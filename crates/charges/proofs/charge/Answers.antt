@@ -1,24 +1,23 @@
 -- Questions 20 and 21, then the charge.
-use Rattle.std.proofs.Common.{◌≡◌, true, false, rules, tests}
-use Rattle.charges.proofs.Answers.{carried, outside, above-ratio, given_is, on-table}
+use Rattle.std.proofs.Common.{ℕ, subst, rules}
+use Rattle.charges.specs.Charges.{ChargeIs}
+use Rattle.charges.proofs.Answers.{Carried, outside, above-ratio, given_is, on-table}
 use Rattle.charges.proofs.charge.Goals as goal
 
-pub returns-then-not-contains-clause-says : goal.returns-then-not-contains-clause-says
-returns-then-not-contains-clause-says c =
-    let e : carried c.args.column c.args.entry_ratio ≡ false = search (rules, tests) in
-    outside c.args.column c.args.entry_ratio e
+pub returns-in_default-clause-says : goal.returns-in_default-clause-says
+returns-in_default-clause-says c = outside c.args.column c.args.entry_ratio c.in_default.ensures
 
 pub returns-then-entry_ratio-gt-LAST_RATIO-clause-says : goal.returns-then-entry_ratio-gt-LAST_RATIO-clause-says
 returns-then-entry_ratio-gt-LAST_RATIO-clause-says c =
-    let e : carried c.args.column c.args.entry_ratio ≡ true = search (rules, tests) in
+    let e : Carried c.args.column c.args.entry_ratio = search rules in
     above-ratio c.args.column c.args.entry_ratio e c.if-entry_ratio-gt-LAST_RATIO.true
 
-pub returns-clause-says : goal.returns-clause-says
-returns-clause-says c =
-    let e : carried c.args.column c.args.entry_ratio ≡ true = search (rules, tests) in
-    given_is c.args.column c.args.entry_ratio e c.if-entry_ratio-gt-LAST_RATIO.false c.charge_at.result c.charge_at.ensures
-
-pub returns-clause-table : goal.returns-clause-table
-returns-clause-table c =
-    let e : carried c.args.column c.args.entry_ratio ≡ true = search (rules, tests) in
-    on-table c.args.column c.args.entry_ratio e c.if-entry_ratio-gt-LAST_RATIO.false c.charge_at.result c.charge_at.ensures
+pub returns : goal.returns
+returns c =
+    let a = c.args in
+    let t = c.charge_at.result in
+    let e = c.in-Some.ensures.0 in
+    let b = c.if-entry_ratio-gt-LAST_RATIO.false in
+    let is : ChargeIs a.column a.entry_ratio t =
+    subst (λ (column : ℕ). ChargeIs column a.entry_ratio t) c.in-Some.ensures.1 c.charge_at.ensures in
+    record { says = given_is a.column a.entry_ratio e b t is; table = on-table a.column a.entry_ratio e b t is }

@@ -8,7 +8,7 @@ use Rattle.charges.proofs.charge_at.Goals.{After-greatest-n}
 
 -- what the call of `greatest` gives, in the definitions' words
 given : (c : After-greatest-n)
-    → c.greatest-n.result ≡ greatest 1000 (raised (charge_double c.args.column c.args.hundredths))
+    → c.greatest-n.result ≡ greatest 1000 (raised (charge_double c.args.column.hundredths c.args.hundredths))
 given c =
     let x = c.unrounded-charge.ensures in
     c.greatest-n.ensures ∙ (λ i. greatest 1000 ((x i +ᵈ half-thousandth i) *ᵈ thousand i))

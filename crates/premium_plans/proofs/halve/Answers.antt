@@ -1,11 +1,10 @@
 -- A trial that reaches takes the place of best, and one that falls short that of short. Where the loop is left,
 -- as many are made as are given, or best and short are next to each other and no more would be.
-use Rattle.std.proofs.Common.{◌≡◌, sym, ◌∙◌, subst, arith, Bool, ℕ, w32}
-use Rattle.std.proofs.lemmas.Int.{to_z-of_z}
+use Rattle.std.proofs.Common.{◌≡◌, refl, sym, ap, ◌∙◌, subst, arith, Bool, ℕ, zero, suc, ◌-◌, ◌≤◌, pos, Option, Some, None, SomeIff}
 use Rattle.plan.specs.SoldOnPremiums.{halvings}
-use Rattle.plan.proofs.Halvings.{before_is, plan_with, Halving, halving-starts, halving-reached}
+use Rattle.plan.proofs.Halvings.{before, plan_with, Halving, halving-starts, halving-reached}
 use Rattle.plan.proofs.Halvings.{halving-short, few, given_made, no-more-made}
-use Rattle.premium_plans.specs.PremiumPlans.{reached_by}
+use Rattle.premium_plans.specs.PremiumPlans.{reached_by, short_is}
 use Rattle.premium_plans.proofs.halve.Goals as goal
 use Rattle.premium_plans.proofs.halve.Goals.{then-reaches, else-reaches}
 use Rattle.premium_plans.proofs.halve.Goals.{then-loop-made-test+else-from-best, else-loop-made-test}
@@ -30,13 +29,19 @@ loop-made-preserved c =
       ],
     )
 
+-- the number before `from`, if there is one
+short-before : (from : ℕ) (o : Option ℕ) → SomeIff o (1 ≤ from) (from - 1) → short_is o ≡ before from
+short-before zero None n = refl
+short-before zero (Some b) p = absurd (omega (arith, p.0))
+short-before (suc b) None n = absurd (n (omega arith))
+short-before (suc b) (Some x) p = ap pos (omega (arith, p.1))
+
 pub returns : goal.returns
 returns c =
     let a = c.args in
     let l = c.loop-made in
     let x = l.invariant.1 in
-    let short =
-    to_z-of_z w32 _ (record { sfits = c.before_it.type_inv }) ∙ c.before_it.ensures ∙ before_is l.from in
+    let short = short-before l.from c.checked_sub.result c.checked_sub.ensures in
     let all : halvings (reached_by a.target.now) a.trials ≡ plan_with l.made l.best l.from =
     elim c.loop-made-test.branch [
       | then-loop-made-test+else-from-best w ↦ no-more-made x l.invariant.0 w.if-from-best.false

@@ -15,5 +15,7 @@ premium-le t {basic} {limited} h l =
     let sum : 1000 * t.risks * basic + t.excess + t.risks * t.conversion * limited ≤ 67648816125000 = omega (arith, shared, losses, t.excess_most) in
     mul-le-mul t.tax_most sum
 
-pub overflow_mul-premium-3 : goal.overflow_mul-premium-3
-overflow_mul-premium-3 c = omega (arith, premium-le c.args.self.now c.requires.0 c.requires.1)
+pub overflow_mul-premium : goal.overflow_mul-premium
+overflow_mul-premium c =
+    simp (c.from-n.ensures, c.from.ensures, c.from-2.ensures, c.from-3.ensures, c.from-4.ensures)
+    (omega (arith, premium-le c.args.self.now c.args.basic.most c.requires))

@@ -13,4 +13,4 @@ total_is : {total : ℕ} (t : PlanTerms) (xs : List Losses) (basic : ℕ)
 total_is t xs basic e = e ∙ sum-limited (held_premium (plan_terms_is t) basic) xs
 
 pub returns : goal.returns
-returns c = total_is c.args.self.now.terms c.args.self.now.losses.now c.args.basic (search rules)
+returns c = total_is c.args.self.now.terms c.args.self.now.losses.now c.args.basic.dollars (search rules)

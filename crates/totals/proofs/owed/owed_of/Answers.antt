@@ -14,10 +14,7 @@ owed-le {risks} {tax} {expense} {total} b =
     mul-le-mul rate sum
 
 pub overflow_mul-owed-3 : goal.overflow_mul-owed-3
-overflow_mul-owed-3 c = omega (arith, owed-le c.requires)
-
-pub overflow_cast-result : goal.overflow_cast-result
-overflow_cast-result c = omega (arith, owed-le c.requires)
+overflow_mul-owed-3 c = simp (c.from-n.ensures, c.from.ensures, c.from-2.ensures) (omega (arith, owed-le c.requires))
 
 pub overflow_mul-result : goal.overflow_mul-result
-overflow_mul-result c = omega (arith, owed-le c.requires)
+overflow_mul-result c = simp (c.from-3.ensures, c.from-n.ensures, c.from.ensures, c.from-2.ensures) (omega (arith, owed-le c.requires))
