@@ -12,7 +12,7 @@ ghost use Rattle.plan.specs.Risk.{count_width};
 ghost use Rattle.plan.specs.Questions.{ask, header_fits, question15};
 ghost use Rattle.claims.specs.Edition.{edition_number};
 ghost use Rattle.group.specs.Values.{header_is};
-ghost use Rattle.putting.specs.Putting.{given_group};
+ghost use Rattle.putting.specs.Putting.{group_is};
 ghost use Rattle.fitting.specs.Fitting.{OpensSays, OpenSays};
 
 use claims::claim::{DOLLARS_WIDTH, joined_width};
@@ -22,6 +22,7 @@ use header::{
     CONVERSION_WIDTH, EXPENSE_WIDTH, LOSS_LIMIT_WIDTH, MARK_KIND_WIDTH, MARK_WIDTH,
     STANDARD_PREMIUM_WIDTH, TAX_WIDTH,
 };
+use putting::GroupValues;
 use words::value_fits;
 
 // ---- question 15
@@ -67,31 +68,26 @@ fn joined_fit(edition: Edition, joined: &[u8]) -> bool
     ensures { result ≡ all_fit (joined_width (edition_number edition)) joined.now }
 {
     let most = joined.iter().fold(0, |most: u8, &bit| most.max(bit));
-    value_fits(joined_width(edition), most as u32)
+    value_fits(joined_width(edition), u32::from(most))
 }
 
 // Question 15. Claims are looked at only where there are as many as the counts add to, and bits where there are as many as
 // claims.
-pub fn values_fit(
-    edition: Edition,
-    header: Header,
-    counts: &[u8],
-    claims: &[u32],
-    joined: &[u8],
-) -> bool
-    ensures { ask 15 result
-        ≡ question15 (given_group (edition_number edition) header counts.now claims.now joined.now) }
+pub fn values_fit(values: &GroupValues<'_>) -> bool
+    ensures { ask 15 result ≡ question15 (group_is values.now) }
 {
-    if counts.len() > MOST_RISKS {
+    if values.counts.len() > MOST_RISKS {
         return false;
     }
-    if !counts_add(counts, claims.len()) {
+    if !counts_add(values.counts, values.claims.len()) {
         return false;
     }
-    if joined.len() != claims.len() {
+    if values.joined.len() != values.claims.len() {
         return false;
     }
-    claims_fit(claims) & joined_fit(edition, joined) & header_fits(header)
+    claims_fit(values.claims)
+        & joined_fit(values.edition, values.joined)
+        & header_fits(values.header)
 }
 
 // ---- question 19

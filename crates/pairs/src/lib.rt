@@ -20,7 +20,7 @@ pub fn as_one(joined: u8, dollars: u32) -> u32
     requires { (joined < 2) × (dollars < 2 ^ dollars_width) }
     ensures { result ≡ joined * 2 ^ dollars_width + dollars }
 {
-    join(joined as u64, DOLLARS_WIDTH, dollars as u64) as u32
+    join(u64::from(joined), DOLLARS_WIDTH, u64::from(dollars)) as u32
 }
 
 // The bits that are held, then two numbers of `width` bits.
@@ -29,6 +29,6 @@ pub fn pair_after(held: u64, width: u32, first: u32, second: u32) -> u64
     requires held_bound { (held < 2 ^ 8) × (first < 2 ^ width) × (second < 2 ^ width) }
     ensures { result ≡ (held * 2 ^ width + first) * 2 ^ width + second }
 {
-    let one = join(held, width, first as u64);
-    join(one, width, second as u64)
+    let one = join(held, width, u64::from(first));
+    join(one, width, u64::from(second))
 }

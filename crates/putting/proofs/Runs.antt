@@ -1,49 +1,43 @@
 -- The header's two runs and the risks are the file's fields, one run after another, and the fill ends the
 -- last byte.
-use mathlib.Core.Path.{◌≡◌, refl, ◌∙◌}
-use mathlib.Core.List.{List, ◌++◌}
+use mathlib.Core.Path.{◌≡◌, ap, ◌∙◌, subst}
+use mathlib.Core.List.{List, ◌++◌, append-nil}
 use Prim.Native.Nat.{ℕ, ◌-◌, ◌*◌, ◌≤◌, ◌<◌}
 use native.Mathlib.Omega.{arith}
-use borrow.Author.Tests.{leb-true}
-use lib.ListN.{length}
+use lib.ListN.{length, drop_of_length-le}
 use lib.Pow.{pow_pos}
 use Rattle.plan.specs.Sizes.{largest_file}
 use Rattle.plan.specs.Field.{Slot, total_width, bytes_for}
 use Rattle.plan.specs.Risk.{slots_of_risks}
-use Rattle.plan.specs.File.{Group, claims_given, file_slots, file_of, file_length}
-use Rattle.plan.specs.Questions.{write_questions}
+use Rattle.plan.specs.File.{Group, claims_given, file_slots, file_of}
+use Rattle.plan.proofs.Fields.{Bytes}
 use Rattle.plan.proofs.Written.{length-bytes_of}
-use Rattle.plan.proofs.Questions.{yes-to}
 use Rattle.plan.proofs.FileSizes.{file-le}
 use Rattle.plan.proofs.Writable.{WriteSound, write-sound, file-fitting}
 use Rattle.plan.proofs.RoundTrip.{made-sound}
-use Rattle.bits.specs.Put.{Room}
+use Rattle.bits.specs.Put.{Room, Put}
 use Rattle.bits.specs.Runs.{Space, Wrote}
+use Rattle.bits.proofs.WholeBytes.{fields-put}
 use Rattle.bits.proofs.Runs.{space-first, Putting, putting-starts, putting-run}
 use Rattle.putting.specs.Putting.{first_slots, last_slots, Ready}
 
-module _ {g : Group} {out : List ℕ} {n : ℕ} (r : Ready g out n) where
+module _ {g : Group} {out : List ℕ} (r : Ready g out) where
   pub sound : WriteSound g
   sound = write-sound g (length out) r.passes
 
   -- ---- the file's length
 
-  pub bytes : n ≡ bytes_for (total_width (file_slots g))
+  pub bytes : length out ≡ bytes_for (total_width (file_slots g))
   bytes = r.is ∙ length-bytes_of (file_slots g)
 
-  pub enough : n ≤ length out
-  enough =
-      let yes = yes-to 13 (write_questions g (length out)) refl r.passes in
-      omega (arith, r.is, leb-true (file_length g) (length out) yes)
-
-  pub small : n ≤ largest_file
+  pub small : length out ≤ largest_file
   small = omega (arith, r.is, file-le (file_of g) (made-sound g sound))
 
   -- ---- its fields, run after run
 
   pub space : Space out 0 (file_slots g)
   space = record {
-    within = omega (arith, bytes, enough);
+    within = omega (arith, bytes);
     reach = omega (arith, bytes, small);
     fitting = file-fitting g sound.edition sound.writable;
   }
@@ -76,15 +70,22 @@ module _ {g : Group} {out : List ℕ} {n : ℕ} (r : Ready g out n) where
   -- ---- the fill: part of a byte
 
   module _ {t : List ℕ} {q : ℕ} (x : Wrote out 0 (file_slots g) t q) where
-    pub fill-starts : q ≤ 8 * n
-    fill-starts = omega (arith, bytes, x.place)
+    pub fill-starts : q ≤ 8 * length t
+    fill-starts = omega (arith, bytes, x.place, x.same)
 
-    pub fill-small : 8 * n - q < 8
-    fill-small = omega (arith, bytes, x.place)
+    pub fill-small : 8 * length t - q < 8
+    fill-small = omega (arith, bytes, x.place, x.same)
 
-    pub fill-room : Room t q (8 * n - q) 0
+    pub fill-room : Room t q (8 * length t - q) 0
     fill-room = record {
-      reach = record { narrow = omega (arith, fill-small); next = omega (arith, fill-starts, small) };
-      within = omega (arith, fill-starts, x.same, enough);
-      fits = pow_pos (8 * n - q);
+      reach = record { narrow = omega (arith, fill-small); next = omega (arith, fill-starts, x.same, small) };
+      within = omega (arith, fill-starts);
+      fits = pow_pos (8 * length t - q);
     }
+
+    -- it ends the file
+    pub file-put : {new : List ℕ} → Bytes out → Bytes new → Put t q (8 * length t - q) 0 new → new ≡ file_of g
+    file-put {new} was is put =
+        fields-put (file_slots g) space.fitting was is x
+        (subst (λ (n : ℕ). Put t q (8 * n - q) 0 new) x.same put) bytes (omega arith)
+        ∙ ap (λ (l : List ℕ). file_of g ++ l) (drop_of_length-le out (omega (arith, r.is))) ∙ append-nil (file_of g)

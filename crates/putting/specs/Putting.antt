@@ -2,12 +2,16 @@
 use Rattle.std.specs.Prelude.{◌≡◌, List, ◌∷◌, ℕ, length, take, drop}
 use Rattle.plan.specs.Field.{Slot, slot}
 use Rattle.plan.specs.Header.{Header, header_slots}
-use Rattle.plan.specs.Claim.{slots_of_claims, claims_of}
+use Rattle.plan.specs.Claim.{slots_of_claims}
 use Rattle.plan.specs.Risk.{count_width}
 use Rattle.plan.specs.File.{Group, file_length}
 use Rattle.plan.specs.Questions.{passed, first_no, write_questions}
 use Rattle.group.specs.Values.{header_is}
 use Rattle.group.specs.declared.Header as group
+use Rattle.claims.specs.Edition.{edition_number}
+use Rattle.runs.specs.Claims.{claims_are}
+use Rattle.runs.specs.declared.GivenClaims.{GivenClaims}
+use Rattle.putting.specs.declared.GroupValues.{GroupValues}
 
 -- the header's first five fields, which n is not among, and the other six, which the edition is not among
 abbrev pub first_slots : ℕ → Header → List Slot
@@ -16,9 +20,9 @@ first_slots edition h = take 5 (header_slots edition h 0)
 abbrev pub last_slots : Header → ℕ → List Slot
 last_slots h n = drop 5 (header_slots 0 h n)
 
--- a risk's fields in an edition, of the bits and the dollars of its claims: the number of its claims, then its claims
-abbrev pub slots_of_risk : ℕ → List ℕ → List ℕ → List Slot
-slots_of_risk edition joined claims = slot count_width (length claims) ∷ slots_of_claims edition (claims_of joined claims)
+-- a risk's fields in an edition, of its claims: the number of them, then they
+abbrev pub slots_of_risk : ℕ → GivenClaims → List Slot
+slots_of_risk edition given = slot count_width (length given.dollars.now) ∷ slots_of_claims edition (claims_are given)
 
 -- the values that a caller hands to Write
 abbrev pub given_group : ℕ → group.Header → List ℕ → List ℕ → List ℕ → Group
@@ -30,7 +34,11 @@ given_group edition h counts claims joined = record {
   joined = joined;
 }
 
--- every question of Write is answered Yes, and n is the file's length
-pub record Ready (g : Group) (out : List ℕ) (n : ℕ) : Type 0 where
+-- as one value, of an edition that is known
+abbrev pub group_is : GroupValues → Group
+group_is v = given_group (edition_number v.edition) v.header v.counts.now v.claims.now v.joined.now
+
+-- every question of Write is answered Yes, and the bytes are as many as the file's
+pub record Ready (g : Group) (out : List ℕ) : Type 0 where
   pub passes : first_no (write_questions g (length out)) ≡ passed
-  pub is : n ≡ file_length g
+  pub is : length out ≡ file_length g

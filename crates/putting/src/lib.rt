@@ -4,14 +4,13 @@
 
 ghost use Rattle.std.specs.Prelude.{◌≡◌, ◌≤◌, length};
 ghost use Rattle.plan.specs.Arithmetic.{sum};
-ghost use Rattle.plan.specs.Calls.{filled};
-ghost use Rattle.plan.specs.Claim.{claims_of};
 ghost use Rattle.plan.specs.Risk.{slots_of_risks};
 ghost use Rattle.plan.specs.File.{file_of};
 ghost use Rattle.bits.specs.Runs.{Space, Wrote};
 ghost use Rattle.claims.specs.Edition.{edition_number};
 ghost use Rattle.group.specs.Values.{header_is};
-ghost use Rattle.putting.specs.Putting.{first_slots, last_slots, slots_of_risk, given_group, Ready};
+ghost use Rattle.runs.specs.Claims.{claims_are};
+ghost use Rattle.putting.specs.Putting.{first_slots, last_slots, slots_of_risk, group_is, Ready};
 
 use bits::BitPlace;
 use claims::edition::Edition;
@@ -21,7 +20,17 @@ use header::{
     CONVERSION_WIDTH, EDITION_WIDTH, EXPENSE_WIDTH, LOSS_LIMIT_WIDTH, MARK_KIND_WIDTH, MARK_WIDTH,
     RISKS_WIDTH, SPARE_WIDTH, STANDARD_PREMIUM_WIDTH, TAX_WIDTH,
 };
-use runs::put_claims;
+use runs::{GivenClaims, put_claims};
+
+// The values of a group file as a caller gives them.
+#[derive(Clone, Copy)]
+pub struct GroupValues<'a> {
+    pub edition: Edition,
+    pub header: Header,
+    pub counts: &'a [u8],
+    pub claims: &'a [u32],
+    pub joined: &'a [u8],
+}
 
 // Puts edition to loss conversion factor, and gives the place after them.
 fn put_first(out: &mut [u8], edition: Edition, h: Header) -> BitPlace
@@ -50,20 +59,13 @@ fn put_last(out: &mut [u8], place: BitPlace, h: Header, risks: u32) -> BitPlace
 }
 
 // Puts a risk: the number of its claims, then its claims.
-fn put_risk(
-    out: &mut [u8],
-    place: BitPlace,
-    edition: Edition,
-    joined: &[u8],
-    claims: &[u32],
-) -> BitPlace
-    requires space { Space out.old place.at (slots_of_risk (edition_number edition) joined.now claims.now) }
-    requires joined_len { length joined.now ≡ length claims.now }
-    ensures { Wrote out.old place.at (slots_of_risk (edition_number edition) joined.now claims.now)
+fn put_risk(out: &mut [u8], place: BitPlace, edition: Edition, claims: GivenClaims<'_>) -> BitPlace
+    requires { Space out.old place.at (slots_of_risk (edition_number edition) claims) }
+    ensures { Wrote out.old place.at (slots_of_risk (edition_number edition) claims.entry)
         out.new result.at }
 {
-    let next = place.put(out, COUNT_WIDTH, claims.len() as u32);
-    put_claims(out, next, edition, joined, claims)
+    let next = place.put(out, COUNT_WIDTH, claims.dollars.len() as u32);
+    put_claims(out, next, edition, claims)
 }
 
 // Puts the risks, each with as many of the claims as its count says.
@@ -72,48 +74,36 @@ fn put_risks(
     place: BitPlace,
     edition: Edition,
     counts: &[u8],
-    claims: &[u32],
-    joined: &[u8],
+    claims: GivenClaims<'_>,
 ) -> BitPlace
-    requires space { Space out.old place.at (slots_of_risks (edition_number edition) counts.now (claims_of joined.now claims.now)) }
-    requires counts_in_bounds { (sum counts.now ≤ length claims.now) × (length joined.now ≡ length claims.now) }
+    requires space { Space out.old place.at (slots_of_risks (edition_number edition) counts.now (claims_are claims)) }
+    requires counts_in_bounds { sum counts.now ≤ length claims.dollars.now }
     ensures { Wrote out.old place.at
-        (slots_of_risks (edition_number edition) counts.now (claims_of joined.now claims.now))
+        (slots_of_risks (edition_number edition) counts.now (claims_are claims.entry))
         out.new result.at }
 {
     let mut next = place;
     let mut claims_left = claims;
-    let mut joined_left = joined;
     for &count in counts {
-        let k = usize::from(count);
-        let (own_claims, later_claims) = claims_left.split_at(k);
-        let (own_joined, later_joined) = joined_left.split_at(k);
-        next = put_risk(out, next, edition, own_joined, own_claims);
+        let (own_claims, later_claims) = claims_left.split_at(usize::from(count));
+        next = put_risk(out, next, edition, own_claims);
         claims_left = later_claims;
-        joined_left = later_joined;
     }
     next
 }
 
-// Puts the file over the first bytes of the buffer, as many as `size`: every field, then zero bits that fill the
-// last byte.
-pub fn put_file(
-    out: &mut [u8],
-    edition: Edition,
-    header: Header,
-    counts: &[u8],
-    claims: &[u32],
-    joined: &[u8],
-    size: usize,
-)
-    requires { Ready (given_group (edition_number edition) header counts.now claims.now joined.now) out.old size }
-    ensures { out.new
-        ≡ filled (file_of (given_group (edition_number edition) header counts.now claims.now joined.now))
-        out.old }
+// Puts the file over the buffer, which is as long: every field, then zero bits that fill the last byte.
+pub fn put_file(out: &mut [u8], values: &GroupValues<'_>)
+    requires { Ready (group_is values.now) out.old }
+    ensures { out.new ≡ file_of (group_is values.now) }
 {
-    let first = put_first(out, edition, header);
-    let last = put_last(out, first, header, counts.len() as u32);
-    let end = put_risks(out, last, edition, counts, claims, joined);
-    let fill = 8 * size - end.at;
+    let claims = GivenClaims {
+        joined: values.joined,
+        dollars: values.claims,
+    };
+    let first = put_first(out, values.edition, values.header);
+    let last = put_last(out, first, values.header, values.counts.len() as u32);
+    let end = put_risks(out, last, values.edition, values.counts, claims);
+    let fill = 8 * out.len() - end.at;
     end.put(out, fill as u32, 0);
 }

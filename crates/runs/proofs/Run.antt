@@ -105,10 +105,42 @@ pub record Run (w : ℕ) (s : List ℕ) (at : ℕ) (js ds t : List ℕ) (bits by
   pub few : bits < 8
   pub pairs : Pairs w s at (values js ds) t bits byte held (2 * n)
 
+-- ---- in a turn, once the pair's five bytes are stored
+
+pub record Stored (w : ℕ) (s : List ℕ) (at : ℕ) (js ds t : List ℕ) (bits byte held n : ℕ) : Type 0 where
+  pub least : dollars_width ≤ w
+  pub most : w ≤ most_claim_width
+  pub few : bits < 16
+  pub pairs : Pairs w s at (values js ds) t bits byte held (2 * n + 2)
+
+module _ {w : ℕ} {s : List ℕ} {at : ℕ} {js ds t : List ℕ} {bits byte held n : ℕ}
+    (g : Stored w s at js ds t bits byte held n) where
+  pub goes_on : {m : ℕ} → m ≡ n + 1 → bits < 8 → Run w s at js ds t bits byte held m
+  goes_on turned few' = record {
+    least = g.least;
+    most = g.most;
+    few = few';
+    pairs = subst (Pairs w s at (values js ds) t bits byte held) (omega (arith, turned)) g.pairs;
+  }
+
+  -- and a byte, where the bits held have one
+  module _ (low : ℕ) (full : bits ≡ 8 + low) where
+    pub room-of-byte : Room t (8 * byte) 8 (held / 2 ^ low)
+    room-of-byte = byte-room g.pairs low full
+
+    pub goes-on-past : {m : ℕ} → m ≡ n + 1 → {u : List ℕ} {next : ℕ} → Put t (8 * byte) 8 (held / 2 ^ low) u
+        → next ≡ held / 2 ^ 0 % 2 ^ low → Run w s at js ds u low (byte + 1) next m
+    goes-on-past turned {u} {next} past is = record {
+      least = g.least;
+      most = g.most;
+      few = omega (arith, full, g.few);
+      pairs = subst (Pairs w s at (values js ds) u low (byte + 1) next) (omega (arith, turned)) (pairs-byte g.pairs low full past is);
+    }
+
+-- ---- a turn and the end
+
 module _ {w : ℕ} {s : List ℕ} {at : ℕ} {js ds t : List ℕ} {bits byte held n : ℕ}
     (g : Run w s at js ds t bits byte held n) (e : length js ≡ length ds) where
-  -- ---- a turn
-
   module _ {two_bits two_dollars : List ℕ} (o : Turn js ds n two_bits two_dollars) where
     more : 2 * n + 1 < length (values js ds)
     more = omega (arith, o.inside, length-values js ds e)
@@ -143,36 +175,16 @@ module _ {w : ℕ} {s : List ℕ} {at : ℕ} {js ds t : List ℕ} {bits byte hel
         pub five : WholeBytes t (8 * byte) 5 (word / 2 ^ next_bits)
         five = five-bytes g.pairs more next_bits as_values wide
 
-        module _ {u : List ℕ} {next : ℕ} (put : Put t (8 * byte) 40 (word / 2 ^ next_bits) u)
-            (held_next : next ≡ word / 2 ^ 0 % 2 ^ next_bits) where
-          after-five : Pairs w s at (values js ds) u next_bits (byte + 5) next (2 * n + 2)
-          after-five = pairs-more g.pairs more next_bits as_values wide put held_next
+        pub stored : {u : List ℕ} {next : ℕ} → Put t (8 * byte) 40 (word / 2 ^ next_bits) u
+            → next ≡ word / 2 ^ 0 % 2 ^ next_bits → Stored w s at js ds u next_bits (byte + 5) next n
+        stored put held_next = record {
+          least = g.least;
+          most = g.most;
+          few = omega (arith, widths, g.few, g.most);
+          pairs = pairs-more g.pairs more next_bits as_values wide put held_next;
+        }
 
-          pub goes_on : {m : ℕ} → m ≡ n + 1 → next_bits < 8 → Run w s at js ds u next_bits (byte + 5) next m
-          goes_on turned few' = record {
-            least = g.least;
-            most = g.most;
-            few = few';
-            pairs = subst (Pairs w s at (values js ds) u next_bits (byte + 5) next) (omega (arith, turned)) after-five;
-          }
-
-          -- and a byte, where the bits held have one
-          module _ (low : ℕ) (full : next_bits ≡ 8 + low) where
-            pub room-of-byte : Room u (8 * (byte + 5)) 8 (next / 2 ^ low)
-            room-of-byte = byte-room after-five low full
-
-            pub goes-on-past : {m : ℕ} → m ≡ n + 1 → {v : List ℕ} {then : ℕ} → Put u (8 * (byte + 5)) 8 (next / 2 ^ low) v
-                → then ≡ next / 2 ^ 0 % 2 ^ low → Run w s at js ds v low (byte + 5 + 1) then m
-            goes-on-past turned {v} {then} past is' = record {
-              least = g.least;
-              most = g.most;
-              few = omega (arith, full, widths, g.few, g.most);
-              pairs =
-                  subst (Pairs w s at (values js ds) v low (byte + 5 + 1) then) (omega (arith, turned))
-                  (pairs-byte after-five low full past is');
-            }
-
-  -- ---- at the end, once the bits held are put
+  -- at the end, once the bits held are put
 
   module _ (h : n ≡ length ds / 2) {u : List ℕ} {q : ℕ}
       (p : (q ≡ 8 * byte + bits) × Put t (8 * byte) bits held u) where

@@ -3,15 +3,19 @@
 // number, so that each is seen to begin with a byte: whole bytes are then stored without a look at the bit.
 #![tactic(auto)]
 
-ghost use Rattle.std.specs.Prelude.{◌≡◌, ◌+◌, ◌*◌, ◌^◌, ◌<◌, length};
-ghost use Rattle.plan.specs.Claim.{joined_width, dollars_width, slots_of_claims, claims_of};
+ghost use Rattle.std.specs.Prelude.{◌≡◌, ◌+◌, ◌*◌, ◌^◌, ◌<◌};
+ghost use Rattle.plan.specs.Claim.{joined_width, dollars_width, slots_of_claims};
 ghost use Rattle.bits.specs.Runs.{Space, Wrote};
 ghost use Rattle.claims.specs.Edition.{edition_number};
 ghost use Rattle.runs.specs.Edition.{edition_by};
+ghost use Rattle.runs.specs.Claims.{claims_are};
+
+mod given;
 
 use bits::BitPlace;
 use claims::claim::DOLLARS_WIDTH;
 use claims::edition::Edition;
+pub use given::GivenClaims;
 use pairs::{PAIR_BYTES, as_one, pair_after};
 use words::extract;
 
@@ -31,24 +35,18 @@ fn number_of<const JOINS: bool>(joined: u8, dollars: u32) -> u32
 }
 
 // Puts claims, each with its bit before it, and gives the place after them.
-fn put_run<const JOINS: bool>(
-    out: &mut [u8],
-    place: BitPlace,
-    joined: &[u8],
-    claims: &[u32],
-) -> BitPlace
-    requires space { Space out.old place.at (slots_of_claims (edition_by JOINS) (claims_of joined.now claims.now)) }
-    requires joined_len { length joined.now ≡ length claims.now }
-    ensures { Wrote out.old place.at (slots_of_claims (edition_by JOINS) (claims_of joined.now claims.now))
+fn put_run<const JOINS: bool>(out: &mut [u8], place: BitPlace, claims: GivenClaims<'_>) -> BitPlace
+    requires { Space out.old place.at (slots_of_claims (edition_by JOINS) (claims_are claims)) }
+    ensures { Wrote out.old place.at (slots_of_claims (edition_by JOINS) (claims_are claims.entry))
         out.new result.at }
 {
     let width = u32::from(JOINS) + DOLLARS_WIDTH;
     let mut bits = (place.at % 8) as u32;
     let mut byte = place.at / 8;
     let begun = BitPlace { at: 8 * byte }.take(out, bits);
-    let mut held = begun.value as u64;
-    let (bit_pairs, last_bit) = joined.as_chunks::<2>();
-    let (claim_pairs, last_claim) = claims.as_chunks::<2>();
+    let mut held = u64::from(begun.value);
+    let (bit_pairs, last_bit) = claims.joined.as_chunks::<2>();
+    let (claim_pairs, last_claim) = claims.dollars.as_chunks::<2>();
     for (bit_pair, claim_pair) in bit_pairs.iter().zip(claim_pairs) {
         let one = number_of::<JOINS>(bit_pair[0], claim_pair[0]);
         let two = number_of::<JOINS>(bit_pair[1], claim_pair[1]);
@@ -78,16 +76,14 @@ pub fn put_claims(
     out: &mut [u8],
     place: BitPlace,
     edition: Edition,
-    joined: &[u8],
-    claims: &[u32],
+    claims: GivenClaims<'_>,
 ) -> BitPlace
-    requires space { Space out.old place.at (slots_of_claims (edition_number edition) (claims_of joined.now claims.now)) }
-    requires joined_len { length joined.now ≡ length claims.now }
+    requires { Space out.old place.at (slots_of_claims (edition_number edition) (claims_are claims)) }
     ensures { Wrote out.old place.at
-        (slots_of_claims (edition_number edition) (claims_of joined.now claims.now)) out.new result.at }
+        (slots_of_claims (edition_number edition) (claims_are claims.entry)) out.new result.at }
 {
     match edition {
-        Edition::First => put_run::<false>(out, place, joined, claims),
-        Edition::Second => put_run::<true>(out, place, joined, claims),
+        Edition::First => put_run::<false>(out, place, claims),
+        Edition::Second => put_run::<true>(out, place, claims),
     }
 }

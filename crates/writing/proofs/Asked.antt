@@ -1,12 +1,13 @@
 -- Write's questions as the code asks them, one after another: each answer makes the verdict, or leaves it
 -- to the questions after it. And what a verdict makes of the answer and of the buffer.
-use mathlib.Core.Path.{◌≡◌, sym, ap, ◌∙◌}
+use mathlib.Core.Path.{◌≡◌, sym, ap, ap₂, ◌∙◌}
 use mathlib.Core.Bool.{Bool, true, false}
 use mathlib.Core.List.{List, [], ◌∷◌, ◌++◌}
 use Prim.Native.Nat.{ℕ, ◌+◌, ◌*◌, ◌≤◌, ◌<◌}
+use native.Mathlib.Omega.{arith}
 use borrow.Author.Tests.{le-leb, lt-leb}
 use lib.Dec.{leb}
-use lib.ListN.{length}
+use lib.ListN.{length, drop}
 use Rattle.plan.specs.Field.{bytes_for}
 use Rattle.plan.specs.Header.{header_bits}
 use Rattle.plan.specs.Claim.{claim_width}
@@ -124,12 +125,10 @@ module _ (g : Group) (old : List ℕ) where
 
           -- ---- all passed
 
-          module _ (h : size ≤ length old) where
-            passes : verdict ≡ passed
-            passes = past-19 (le-leb size (length old) h)
+          -- with a buffer of that length, as which the first bytes are handed on
+          pub ready : length old ≡ size → Ready g old
+          ready e = record { passes = past-19 (le-leb size (length old) (omega (arith, e))); is = e ∙ right }
 
-            pub ready : Ready g old size
-            ready = record { passes = passes; is = right }
-
-            pub written-all : {new : List ℕ} → new ≡ filled file old → WriteSays g old (Ok size) new
-            written-all b = says-length passes right b
+          pub written-all : size ≤ length old → {first : List ℕ} → first ≡ file → WriteSays g old (Ok size) (first ++ drop size old)
+          written-all h f =
+              says-length (past-19 (le-leb size (length old) h)) right (ap₂ (λ (b : List ℕ) (n : ℕ). b ++ drop n old) f right)

@@ -1,6 +1,6 @@
--- A file's length: the header, a count for each risk, and as many claims as the counts add to.
+-- A file's length: the header, a count for each risk, and as many claims as the counts add to; and the bytes of so many bits.
 use mathlib.Core.Path.{◌≡◌, ap, ◌∙◌}
-use Prim.Native.Nat.{ℕ, ◌+◌, ◌*◌}
+use Prim.Native.Nat.{ℕ, ◌+◌, ◌*◌, ◌/◌, ◌%◌, min}
 use native.Mathlib.Omega.{arith}
 use lib.ListN.{length}
 use Rattle.plan.specs.Field.{bytes_for}
@@ -27,3 +27,7 @@ file-length {g} w =
           (omega (arith, w.adds, length-claims-of g.joined g.claims w.bits)),
       ap (λ (n : ℕ). claim_width g.edition * n) w.adds,
     ))
+
+-- the bytes of so many bits, as the quotient by 8 and one more where bits are left
+pub ceil-bytes : (n : ℕ) → n / 8 + min 1 (n % 8) ≡ bytes_for n
+ceil-bytes n = grind arith

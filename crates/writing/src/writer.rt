@@ -15,7 +15,7 @@ use fitting::{risks_open, values_fit};
 use group::{Header, Refusal};
 use groupfile::opening::HEADER_BYTES;
 use header::header_verdict;
-use putting::put_file;
+use putting::{GroupValues, put_file};
 
 // The length of a file of an edition with so many risks and claims.
 fn file_length(edition: Edition, risks: usize, claims: usize) -> usize
@@ -25,7 +25,7 @@ fn file_length(edition: Edition, risks: usize, claims: usize) -> usize
     let bits = 8 * HEADER_BYTES
         + COUNT_WIDTH as usize * risks
         + claim_width(edition) as usize * claims;
-    (bits + 7) / 8
+    bits.div_ceil(8)
 }
 
 // The file of given values, put over the first bytes of `out`; or the first question that failed, and nothing. The edition is the number
@@ -43,7 +43,14 @@ pub fn write(
 {
     let edition = Edition::try_from(edition)?;
     header_verdict(header, counts.len())?;
-    if !values_fit(edition, header, counts, claims, joined) {
+    let values = GroupValues {
+        edition,
+        header,
+        counts,
+        claims,
+        joined,
+    };
+    if !values_fit(&values) {
         return Err(Refusal::Misfit);
     }
     if !risks_open(counts, joined) {
@@ -53,6 +60,6 @@ pub fn write(
     if out.len() < size {
         return Err(Refusal::Room);
     }
-    put_file(out, edition, header, counts, claims, joined, size);
+    put_file(&mut out[..size], &values);
     Ok(size)
 }

@@ -15,5 +15,5 @@ pub returns : goal.returns
 returns c =
     let w = joined_width (edition_number c.args.edition) in
     let e : c.fold-most.result ≡ fold max 0 c.args.joined.now = search (rules, chains) in
-    c.value_fits.ensures ∙ ap₂ fits c.joined_width.ensures e ∙ greatest-asked w 0 c.args.joined.now
+    c.value_fits.ensures ∙ ap₂ fits c.joined_width.ensures (c.from.ensures ∙ e) ∙ greatest-asked w 0 c.args.joined.now
     ∙ ap (λ (b : Bool). b && all_fit w c.args.joined.now) (lt-ltb 0 (2 ^ w) (pow_pos w))

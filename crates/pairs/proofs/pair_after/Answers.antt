@@ -1,5 +1,5 @@
 -- Each number is joined to what stands before it: 8 bits and twice 21 at most.
-use Rattle.std.proofs.Common.{◌+◌, ◌^◌, ◌<◌, ℕ, sym, subst, arith}
+use Rattle.std.proofs.Common.{◌+◌, ◌^◌, ◌<◌, arith}
 use Rattle.words.proofs.Words.{joins, joined-lt}
 use Rattle.pairs.proofs.pair_after.Goals as goal
 
@@ -8,6 +8,5 @@ join-requires c =
     let a = c.args in
     let p = c.requires.held_bound in
     let one : c.join-one.result < 2 ^ (8 + a.width) =
-    subst (λ (x : ℕ). x < 2 ^ (8 + a.width)) (sym c.join-one.ensures)
-    (joined-lt 8 a.width (8 + a.width) p.0 p.1 (omega arith)) in
-    joins (8 + a.width) a.width one p.2 (omega (arith, c.requires), omega (arith, c.requires))
+    rw (c.join-one.ensures, c.from.ensures) (joined-lt 8 a.width (8 + a.width) p.0 p.1 (omega arith)) in
+    rw c.from-2.ensures (joins (8 + a.width) a.width one p.2 (omega (arith, c.requires), omega (arith, c.requires)))

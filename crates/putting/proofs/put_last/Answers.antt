@@ -1,17 +1,13 @@
--- Each field is put at the place that the put before it hands on.
+-- Each field is put at the place that the put before it hands on. Alike in put_first, of other fields: the bytes between two puts are
+-- in no goal, and no search was found that finds them, so each put is named.
 use Rattle.bits.proofs.Runs.{wrote_none, wrote-more}
 use Rattle.putting.proofs.put_last.Goals as goal
 
 pub returns : goal.returns
 returns c =
-    let kind = c.put-kind.ensures in
-    let maximum = c.put-maximum.ensures in
-    let minimum = c.put-minimum.ensures in
-    let n = c.put-n.ensures in
-    let spare = c.put-spare.ensures in
-    let end = c.put.ensures in
-    wrote-more (kind.next, kind.put)
-    (wrote-more (maximum.next, maximum.put)
-    (wrote-more (minimum.next, minimum.put)
-    (wrote-more (n.next, n.put)
-    (wrote-more (spare.next, spare.put) (wrote-more (end.next, end.put) (wrote_none _ _))))))
+    wrote-more (c.put-kind.ensures.next, c.put-kind.ensures.put)
+    (wrote-more (c.put-maximum.ensures.next, c.put-maximum.ensures.put)
+    (wrote-more (c.put-minimum.ensures.next, c.put-minimum.ensures.put)
+    (wrote-more (c.put-n.ensures.next, c.put-n.ensures.put)
+    (wrote-more (c.put-spare.ensures.next, c.put-spare.ensures.put)
+    (wrote-more (c.put.ensures.next, c.put.ensures.put) (wrote_none _ _))))))

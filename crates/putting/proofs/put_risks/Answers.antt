@@ -3,29 +3,28 @@ use Rattle.std.proofs.Common.{ap}
 use mathlib.Core.List.{List}
 use Prim.Native.Nat.{ℕ}
 use lib.ListN.{drop_of_length-le}
-use Rattle.plan.specs.Claim.{claims_of}
 use Rattle.plan.specs.Risk.{slots_of_risks}
 use Rattle.bits.proofs.Runs.{space-first, putting-as, putting-ends}
 use Rattle.claims.specs.Edition.{edition_number}
+use Rattle.runs.specs.Claims.{claims_are}
 use Rattle.putting.proofs.Risks.{next, goes_on}
 use Rattle.putting.proofs.put_risks.Goals as goal
 
-pub put_risk-next-requires-clause-space : goal.put_risk-next-requires-clause-space
-put_risk-next-requires-clause-space c =
-    let ds = c.split_at.ensures in
-    let js = c.split_at-in-loop-count.ensures in
-    space-first _ _ (next c.loop-count.invariant c.loop-count-test.true c.from-k.ensures ds.front ds.back js.front js.back).space
+pub put_risk-next-requires : goal.put_risk-next-requires
+put_risk-next-requires c =
+    let p = c.split_at in
+    space-first _ _
+    (next c.loop-count.invariant c.loop-count-test.true p.result.0 p.result.1 c.from.ensures p.ensures.front p.ensures.back).space
 
 pub loop-count-preserved : goal.loop-count-preserved
 loop-count-preserved c =
-    let ds = c.split_at.ensures in
-    let js = c.split_at-in-loop-count.ensures in
-    goes_on c.loop-count.invariant c.loop-count-test.true c.from-k.ensures ds.front ds.back js.front js.back c.put_risk-next.ensures
+    let p = c.split_at in
+    goes_on c.loop-count.invariant c.loop-count-test.true p.result.0 p.result.1 c.from.ensures p.ensures.front p.ensures.back
+    c.put_risk-next.ensures
 
 pub returns : goal.returns
 returns c =
-    let g = c.loop-count.invariant in
     putting-ends
-    (putting-as g.putting
-    (ap (λ (x : List ℕ). slots_of_risks (edition_number c.args.edition) x (claims_of c.loop-count.joined_left.now c.loop-count.claims_left.now))
+    (putting-as c.loop-count.invariant.putting
+    (ap (λ (x : List ℕ). slots_of_risks (edition_number c.args.edition) x (claims_are c.loop-count.claims_left))
     (drop_of_length-le c.args.counts.now c.loop-count-test.false)))

@@ -1,18 +1,20 @@
 -- The run's first byte may be begun; the bits held then are its own, and are put as they were. A turn puts
 -- a pair, and a byte where the bits held have one; those held and a claim that has no other are put at the
 -- end.
-use Rattle.std.proofs.Common.{arith, refl, ◌≡◌, ◌∙◌, ap, ℕ, ◌+◌, Bool, true, false, not, eqb}
+use Rattle.std.proofs.Common.{arith, refl, ◌≡◌, ◌∙◌, ap, ℕ, ◌+◌, ◌-◌, ◌*◌, ◌/◌, Bool, true, false, not, eqb, length, [], ◌∷◌}
 use mir.Val.{bool_byte}
 use Rattle.std.proofs.lemmas.List.{length_push}
+use Rattle.plan.specs.Field.{slot, slots}
 use Rattle.plan.specs.Claim.{joined_width, dollars_width}
 use Rattle.plan.proofs.Claims.{joined-width-le}
-use Rattle.bits.proofs.Runs.{room, putting-more, putting-ends}
-use Rattle.pairs.proofs.AsOne.{space-numbers, wrote-numbers}
+use Rattle.bits.proofs.Runs.{room, Putting, putting-more, putting-ends}
+use Rattle.pairs.proofs.AsOne.{values, space-numbers, wrote-numbers}
 use Rattle.pairs.proofs.ByPairs.{pairs_start}
-use Rattle.runs.proofs.Run.{turn, turns, first-fit, second-fit, pair-fit, five, goes_on}
+use Rattle.runs.proofs.Run.{Turn, turn, turns, first-fit, second-fit, pair-fit, five, Stored, stored, goes_on}
 use Rattle.runs.proofs.Run.{room-of-byte, goes-on-past, all-put, last-fit, one_left}
 use Rattle.runs.specs.Edition.{edition_by}
 use Rattle.runs.proofs.put_run.Goals as goal
+use Rattle.runs.proofs.put_run.Goals.{In-Some, In-None, After-extract-held, After-number_of-last}
 
 -- whether claims have bits, by the number of the const parameter
 abbrev has_bits : ℕ → Bool
@@ -35,116 +37,118 @@ loop-bit_pair-init g c =
             most = omega (arith, w, joined-width-le (edition_by (has_bits g.row.JOINS)));
             few = omega arith;
             pairs =
-                pairs_start (space-numbers (edition_by (has_bits g.row.JOINS)) a.joined.now a.claims.now w c.requires.space)
-                (omega arith) c.take-begun.ensures.is;
+                pairs_start (space-numbers (edition_by (has_bits g.row.JOINS)) a.claims.joined.now a.claims.dollars.now w c.requires)
+                (omega arith) (c.from-held.ensures ∙ c.take-begun.ensures.is);
           };
     }
 
 -- ---- a turn
 
+-- the pair that it goes over
+pair-of : {g : _} (c : In-Some g)
+    → Turn c.args.claims.joined.now c.args.claims.dollars.now (length c.loop-bit_pair.yielded) c.in-Some.bit_pair.now c.in-Some.claim_pair.now
+pair-of c =
+    turn c.loop-bit_pair.invariant.over c.args.claims.same _ _ c.next.new.self c.loop-bit_pair.yielded_by c.in-Some.is
+    c.next.ensures.steps
+
 pub number_of-one-requires : goal.number_of-one-requires
 number_of-one-requires g c =
-    let w = c.loop-bit_pair.invariant in
-    let e = c.requires.joined_len in
-    let t = turn w.over e _ _ c.next.new.self c.loop-bit_pair.yielded_by c.in-Some.is c.next.ensures.steps in
-    first-fit t e (edition_by (has_bits g.row.JOINS)) c.requires.space.fitting
+    first-fit (pair-of (goal.at.number_of-one-requires g c).In-Some) c.args.claims.same (edition_by (has_bits g.row.JOINS))
+    c.requires.fitting
 
 pub number_of-two-requires : goal.number_of-two-requires
 number_of-two-requires g c =
-    let w = c.loop-bit_pair.invariant in
-    let e = c.requires.joined_len in
-    let t = turn w.over e _ _ c.next.new.self c.loop-bit_pair.yielded_by c.in-Some.is c.next.ensures.steps in
-    second-fit t e (edition_by (has_bits g.row.JOINS)) c.requires.space.fitting
+    second-fit (pair-of (goal.at.number_of-two-requires g c).In-Some) c.args.claims.same (edition_by (has_bits g.row.JOINS))
+    c.requires.fitting
 
 pub pair_after-word-requires-clause-held_bound : goal.pair_after-word-requires-clause-held_bound
 pair_after-word-requires-clause-held_bound g c =
-    let w = c.loop-bit_pair.invariant in
-    let e = c.requires.joined_len in
-    let t = turn w.over e _ _ c.next.new.self c.loop-bit_pair.yielded_by c.in-Some.is c.next.ensures.steps in
-    pair-fit w.run e t c.number_of-one.ensures c.number_of-two.ensures
+    pair-fit c.loop-bit_pair.invariant.run c.args.claims.same
+    (pair-of (goal.at.pair_after-word-requires-clause-held_bound g c).In-Some) c.number_of-one.ensures c.number_of-two.ensures
 
 pub put_whole-requires : goal.put_whole-requires
 put_whole-requires g c =
-    let w = c.loop-bit_pair.invariant in
-    let e = c.requires.joined_len in
-    let t = turn w.over e _ _ c.next.new.self c.loop-bit_pair.yielded_by c.in-Some.is c.next.ensures.steps in
-    five w.run e t c.number_of-one.ensures c.number_of-two.ensures c.pair_after-word.ensures refl
+    five c.loop-bit_pair.invariant.run c.args.claims.same (pair-of (goal.at.put_whole-requires g c).In-Some) c.number_of-one.ensures
+    c.number_of-two.ensures c.pair_after-word.ensures refl
+
+-- the pair is stored
+stored-of : {g : _} (c : After-extract-held g)
+    → Turn c.args.claims.joined.now c.args.claims.dollars.now (length c.loop-bit_pair.yielded) c.in-Some.bit_pair.now c.in-Some.claim_pair.now
+    → Stored (c.from-width.result + 20) c.args.out.now c.args.place.at c.args.claims.joined.now c.args.claims.dollars.now
+    c.put_whole.new.out (c.loop-bit_pair.bits + 2 * (c.from-width.result + 20) - 40) (c.loop-bit_pair.byte + 5) c.extract-held.result
+    (length c.loop-bit_pair.yielded)
+stored-of c two =
+    stored c.loop-bit_pair.invariant.run c.args.claims.same two c.number_of-one.ensures
+    c.number_of-two.ensures c.pair_after-word.ensures refl c.put_whole.ensures.put c.extract-held.ensures
 
 pub loop-bit_pair-preserved : goal.loop-bit_pair-preserved
 loop-bit_pair-preserved g c =
-    let w = c.loop-bit_pair.invariant in
-    let e = c.requires.joined_len in
-    let t = turn w.over e _ _ c.next.new.self c.loop-bit_pair.yielded_by c.in-Some.is c.next.ensures.steps in
+    let p = goal.at.loop-bit_pair-preserved g c in
     record {
-      over = w.over;
+      over = c.loop-bit_pair.invariant.over;
       run =
-          goes_on w.run e t c.number_of-one.ensures c.number_of-two.ensures c.pair_after-word.ensures refl c.put_whole.ensures.put
-          c.extract-held.ensures (length_push _ _) c.if-bits-ge-BYTE_WIDTH.false;
+          goes_on (stored-of p.After-extract-held (pair-of p.In-Some)) (length_push _ _) c.if-bits-ge-BYTE_WIDTH.false;
     }
 
 -- ---- and a byte
 
 pub put-requires : goal.put-requires
 put-requires g c =
-    let w = c.loop-bit_pair.invariant in
-    let e = c.requires.joined_len in
-    let t = turn w.over e _ _ c.next.new.self c.loop-bit_pair.yielded_by c.in-Some.is c.next.ensures.steps in
-    room-of-byte w.run e t c.number_of-one.ensures c.number_of-two.ensures c.pair_after-word.ensures refl c.put_whole.ensures.put
-    c.extract-held.ensures _ (omega arith)
+    let p = goal.at.put-requires g c in
+    room-of-byte (stored-of p.After-extract-held (pair-of p.In-Some)) _ (omega arith)
 
 pub loop-bit_pair-preserved-then-bits-ge-BYTE_WIDTH : goal.loop-bit_pair-preserved-then-bits-ge-BYTE_WIDTH
 loop-bit_pair-preserved-then-bits-ge-BYTE_WIDTH g c =
-    let w = c.loop-bit_pair.invariant in
-    let e = c.requires.joined_len in
-    let t = turn w.over e _ _ c.next.new.self c.loop-bit_pair.yielded_by c.in-Some.is c.next.ensures.steps in
+    let p = goal.at.loop-bit_pair-preserved-then-bits-ge-BYTE_WIDTH g c in
     record {
-      over = w.over;
+      over = c.loop-bit_pair.invariant.over;
       run =
-          goes-on-past w.run e t c.number_of-one.ensures c.number_of-two.ensures c.pair_after-word.ensures refl c.put_whole.ensures.put
-          c.extract-held.ensures _ (omega arith) (length_push _ _) c.put.ensures.put
+          goes-on-past (stored-of p.After-extract-held (pair-of p.In-Some)) _ (omega arith) (length_push _ _) c.put.ensures.put
           c.extract-held-then-bits-ge-BYTE_WIDTH.ensures;
     }
 
 -- ---- the end
 
+-- all the pairs have had a turn
+pairs-passed : {g : _} (c : In-None g) → length c.loop-bit_pair.yielded ≡ length c.args.claims.dollars.now / 2
+pairs-passed c =
+    turns c.loop-bit_pair.invariant.over c.args.claims.same _ _ c.next.new.self c.loop-bit_pair.yielded_by c.in-None.is
+    c.next.ensures.steps
+
 pub number_of-last-requires : goal.number_of-last-requires
 number_of-last-requires g c =
-    let w = c.loop-bit_pair.invariant in
-    let e = c.requires.joined_len in
-    let n = turns w.over e _ _ c.next.new.self c.loop-bit_pair.yielded_by c.in-None.is c.next.ensures.steps in
+    let n = pairs-passed (goal.at.number_of-last-requires g c).In-None in
     let p = c.put-next.ensures in
-    last-fit w.run e n (p.next, p.put) c.as_chunks.ensures.back c.as_chunks-2.ensures.back
-    (grind (arith, c.as_chunks-2.ensures.back_len)) (edition_by (has_bits g.row.JOINS)) c.requires.space.fitting
+    last-fit c.loop-bit_pair.invariant.run c.args.claims.same n (p.next, p.put) c.as_chunks.ensures.back c.as_chunks-2.ensures.back
+    (grind (arith, c.as_chunks-2.ensures.back_len)) (edition_by (has_bits g.row.JOINS)) c.requires.fitting
+
+-- a claim is left
+one-of : {g : _} (c : After-number_of-last g) → length c.loop-bit_pair.yielded ≡ length c.args.claims.dollars.now / 2
+    → Putting c.args.out.now c.args.place.at
+    (slots (c.from-width.result + 20) (values c.args.claims.joined.now c.args.claims.dollars.now)) c.put-next.new.out
+    c.put-next.result.at (slot (c.from-width.result + 20) c.number_of-last.result ∷ [])
+one-of c passed =
+    let p = c.put-next.ensures in
+    one_left c.loop-bit_pair.invariant.run c.args.claims.same passed (p.next, p.put) c.as_chunks.ensures.back
+    c.as_chunks-2.ensures.back (grind (arith, c.as_chunks-2.ensures.back_len)) c.number_of-last.ensures
 
 pub put-requires-2 : goal.put-requires-2
 put-requires-2 g c =
-    let w = c.loop-bit_pair.invariant in
-    let e = c.requires.joined_len in
-    let n = turns w.over e _ _ c.next.new.self c.loop-bit_pair.yielded_by c.in-None.is c.next.ensures.steps in
-    let p = c.put-next.ensures in
-    let last = one_left w.run e n (p.next, p.put) c.as_chunks.ensures.back c.as_chunks-2.ensures.back
-    (grind (arith, c.as_chunks-2.ensures.back_len)) c.number_of-last.ensures in
-    room last.space (omega (arith, w.run.most))
+    let p = goal.at.put-requires-2 g c in
+    room (one-of p.After-number_of-last (pairs-passed p.In-None)).space (omega (arith, c.loop-bit_pair.invariant.run.most))
 
 pub returns : goal.returns
 returns g c =
-    let w = c.loop-bit_pair.invariant in
-    let e = c.requires.joined_len in
-    let n = turns w.over e _ _ c.next.new.self c.loop-bit_pair.yielded_by c.in-None.is c.next.ensures.steps in
-    let p = c.put-next.ensures in
+    let p = goal.at.returns g c in
     let end = c.put-2.ensures in
-    let last = one_left w.run e n (p.next, p.put) c.as_chunks.ensures.back c.as_chunks-2.ensures.back
-    (grind (arith, c.as_chunks-2.ensures.back_len)) c.number_of-last.ensures in
-    wrote-numbers (edition_by (has_bits g.row.JOINS)) c.args.joined.now c.args.claims.now (width-of (has_bits g.row.JOINS) c.from-width.ensures)
-    c.requires.space
-    (putting-ends (putting-more last (end.next, end.put)))
+    wrote-numbers (edition_by (has_bits g.row.JOINS)) c.args.claims.joined.now c.args.claims.dollars.now
+    (width-of (has_bits g.row.JOINS) c.from-width.ensures) c.requires
+    (putting-ends (putting-more (one-of p.After-number_of-last (pairs-passed p.In-None)) (end.next, end.put)))
 
 pub returns-then-is_empty : goal.returns-then-is_empty
 returns-then-is_empty g c =
-    let w = c.loop-bit_pair.invariant in
-    let e = c.requires.joined_len in
-    let n = turns w.over e _ _ c.next.new.self c.loop-bit_pair.yielded_by c.in-None.is c.next.ensures.steps in
+    let n = pairs-passed (goal.at.returns-then-is_empty g c).In-None in
     let p = c.put-next.ensures in
-    wrote-numbers (edition_by (has_bits g.row.JOINS)) c.args.joined.now c.args.claims.now (width-of (has_bits g.row.JOINS) c.from-width.ensures)
-    c.requires.space
-    (all-put w.run e n (p.next, p.put) (grind (arith, c.as_chunks-2.ensures.back_len)))
+    wrote-numbers (edition_by (has_bits g.row.JOINS)) c.args.claims.joined.now c.args.claims.dollars.now
+    (width-of (has_bits g.row.JOINS) c.from-width.ensures) c.requires
+    (all-put c.loop-bit_pair.invariant.run c.args.claims.same n (p.next, p.put) (grind (arith, c.as_chunks-2.ensures.back_len)))

@@ -6,6 +6,6 @@ use Rattle.runs.proofs.put_run.Given as goal
 
 abbrev pub invariant-loop-bit_pair : goal.invariant-loop-bit_pair
 invariant-loop-bit_pair g l = record {
-  over : Over l.joined l.claims l.initial.bit_pair-iterator;
-  run : Run l.width l.fn.out l.fn.place.at l.joined l.claims l.out l.bits l.byte l.held (length l.yielded);
+  over : Over l.claims.joined.now l.claims.dollars.now l.initial.bit_pair-iterator;
+  run : Run l.width l.fn.out l.fn.place.at l.claims.joined.now l.claims.dollars.now l.out l.bits l.byte l.held (length l.yielded);
 }

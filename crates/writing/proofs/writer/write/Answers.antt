@@ -2,6 +2,7 @@
 -- before the last of them.
 use Rattle.std.proofs.Common.{◌≡◌, refl, sym, ap, ◌∙◌, subst, ℕ, true, Result, Ok}
 use Rattle.std.proofs.lemmas.Result.{err_from_is_err_and}
+use lib.Seq.{length-take-le}
 use Rattle.plan.specs.Questions.{known_edition}
 use Rattle.group.specs.Refusals.{verdict_is}
 use Rattle.group.specs.declared.Refusal.{Refusal}
@@ -64,7 +65,8 @@ returns-then-out-size c =
 pub put_file-requires : goal.put_file-requires
 put_file-requires c =
     ready _ _ (known c.in_ok-edition.edition) (sym (ap verdict_is c.in_ok-header_verdict.was) ∙ c.header_verdict.ensures)
-    c.if-not-values_fit.ensures c.if-not-risks_open.ensures c.file_length-size.ensures c.if-out-size.false
+    c.if-not-values_fit.ensures c.if-not-risks_open.ensures c.file_length-size.ensures
+    (length-take-le c.file_length-size.result c.args.out.now c.if-out-size.false)
 
 pub returns : goal.returns
 returns c =

@@ -1,0 +1,29 @@
+// Claims of a group as they are given: the dollars, and as many bits.
+ghost use Rattle.std.specs.Prelude.{◌≡◌, length};
+
+#[derive(Clone, Copy)]
+pub struct GivenClaims<'a> {
+    pub joined: &'a [u8],
+    pub dollars: &'a [u32],
+    pub ghost same: { length joined.now ≡ length dollars.now },
+}
+
+impl<'a> GivenClaims<'a> {
+    ghost use Rattle.std.specs.Prelude.{◌≡◌, ◌≤◌, length, take, drop};
+    ghost use Rattle.runs.specs.Claims.{claims_are};
+
+    // The first k claims, and those after them.
+    pub fn split_at(self, k: usize) -> (GivenClaims<'a>, GivenClaims<'a>)
+        requires { k ≤ length self.dollars.now }
+        ensures front { claims_are result.0 ≡ take k (claims_are self.entry) }
+        ensures back { claims_are result.1 ≡ drop k (claims_are self.entry) }
+    {
+        let (joined, later_joined) = self.joined.split_at(k);
+        let (dollars, later_dollars) = self.dollars.split_at(k);
+        let later = GivenClaims {
+            joined: later_joined,
+            dollars: later_dollars,
+        };
+        (GivenClaims { joined, dollars }, later)
+    }
+}
