@@ -37,7 +37,7 @@ pub fn highest(word: u64, n: u32) -> u64
 
 // The 64 bits from byte i on, which end at byte `reach` or before.
 pub fn word_within(file: &[u8], i: usize, reach: usize) -> u64
-    requires { (i < 2 ^ 61) × (i + 8 ≤ reach) }
+    requires { i + 8 ≤ reach }
     ensures { result ≡ field file.now (8 * i) 64 }
 {
     if reach <= file.len() {
@@ -49,7 +49,7 @@ pub fn word_within(file: &[u8], i: usize, reach: usize) -> u64
 
 // The same wherever it ends. Apart from the test of `reach`, so that a loop over words can compile to one without a test in it.
 fn word_at(file: &[u8], i: usize) -> u64
-    requires { i < 2 ^ 61 }
+    requires { i + 8 < 2 ^ 64 }
     ensures { result ≡ field file.now (8 * i) 64 }
 {
     if i + 8 <= file.len() {
@@ -78,7 +78,7 @@ fn word_inside(file: &[u8], i: usize) -> u64
 
 // The same near the file's end: a byte past it is 0.
 fn word_at_end(file: &[u8], i: usize) -> u64
-    requires { i < 2 ^ 61 }
+    requires { i + 8 < 2 ^ 64 }
     ensures { result ≡ field file.now (8 * i) 64 }
 {
     u64::from_be_bytes(array::from_fn(|k| file.get(i + k).copied().unwrap_or(0)))
@@ -100,17 +100,8 @@ pub fn insert(old: u8, low: u32, n: u32, part: u64) -> u8
     ensures { Inserted old low n part result }
 {
     if n == 8 {
-        part as u8
-    } else {
-        between(old, low, n, part)
+        return part as u8;
     }
-}
-
-// The same, by shifts and masks.
-fn between(old: u8, low: u32, n: u32, part: u64) -> u8
-    requires { (low + n ≤ 8) × (part < 2 ^ n) }
-    ensures { Inserted old low n part result }
-{
     let b = u64::from(old);
     let top = join(b >> (low + n), n, part);
     join(top, low, extract(b, 0, low)) as u8
