@@ -1,22 +1,24 @@
 -- The two loops of Read. After i claims of a risk their dollars are stored one behind another, and their bits likewise, by one law over
 -- the part of a claim; after i risks their counts, claims and bits fill the first entries of their buffers. Each law takes one claim, or
 -- one risk, more. Assumes nothing.
-use mathlib.Core.Path.{◌≡◌, refl, sym, ap, ap₂, ◌∙◌}
+use mathlib.Core.Path.{◌≡◌, refl, sym, ap, ap₂, ◌∙◌, subst}
 use mathlib.Core.List.{List, [], ◌∷◌, ◌++◌, map}
-use Rattle.std.proofs.lemmas.List.{append-nil, map-append}
+use Rattle.std.proofs.lemmas.List.{append-nil}
 use Rattle.std.proofs.lemmas.Slice.{put_mid-paste}
 use borrow.Rule.Slice.PartMut.{put_mid}
 use Prim.Native.Nat.{ℕ, ◌+◌, ◌-◌, ◌≤◌, ◌<◌}
+use native.Mathlib.Numerals.{add-one}
+use native.Mathlib.Nat.{zero-add}
 use native.Mathlib.Omega.{arith}
-use lib.ListN.{length, set, length-map, drop_of_length-le}
-use lib.Seq.{paste}
+use lib.ListN.{length, get_or, set, length-set, length-map, drop_of_length-le}
+use lib.Seq.{paste, paste-zero, paste-suc}
 use Rattle.plan.specs.Arithmetic.{sum}
 use Rattle.plan.specs.Sizes.{most_file_bits}
 use Rattle.plan.specs.Claim.{Claim, dollars, claim_at, claims_from, past_claims}
 use Rattle.plan.specs.Risk.{count_width, count_at, first_claim, claims_at, counts_from, risks_from, past_risks, all_claims}
 use Rattle.plan.specs.Calls.{filled}
 use Rattle.plan.proofs.Sums.{sum-append}
-use Rattle.plan.proofs.Claims.{length-claims, claims-more}
+use Rattle.plan.proofs.Claims.{length-claims, part_in}
 use Rattle.plan.proofs.Risks.{length-claims-at, length-counts, counts-claims, counts-more, past-risks-more, past-risks-le, sum-prefix}
 use Rattle.plan.proofs.Risks.{parts_more}
 use Rattle.plan.proofs.Filled.{filled_none, filled_more, filled-run}
@@ -30,27 +32,44 @@ filled_all {A = A} new old e = ap (λ (l : List A). new ++ l) (drop_of_length-le
 
 -- ---- the claims of a risk
 
-module _ (part : Claim → ℕ) (s : List ℕ) (at : ℕ) (old : List ℕ) where
-  -- a part of each of the first i claims from `at` on fills a buffer's first entries
-  abbrev pub Parts : ℕ → List ℕ → Type 0
-  Parts i present = present ≡ filled (map part (claims_from s at i)) old
+-- a part of each of k claims from `at` on: of the first i it is stored from entry `from` on
+pub record Copying (part : Claim → ℕ) (s : List ℕ) (at k from : ℕ) (old : List ℕ) (i : ℕ) (present : List ℕ) : Type 0 where
+  pub same : length present ≡ length old
+  pub stored : present ≡ paste old from (map part (claims_from s at k)) i
 
-  -- one claim more, the one where the first i end
-  pub parts-more : {i x p : ℕ} {present : List ℕ} → Parts i present → p ≡ past_claims s at i → x ≡ part (claim_at s p) → i < length old
+pub copying-starts : (part : Claim → ℕ) (s : List ℕ) (at k from : ℕ) (old : List ℕ) → Copying part s at k from old 0 old
+copying-starts part s at k from old = record { same = refl; stored = paste-zero old from (map part (claims_from s at k)) }
+
+pub copying-more : {part : Claim → ℕ} {s : List ℕ} {at k from : ℕ} {old : List ℕ} {i : ℕ} {present : List ℕ}
+    → Copying part s at k from old i present → {x p : ℕ} → p ≡ past_claims s at i → x ≡ part (claim_at s p) → i < k → from + k ≤ length old
+    → Copying part s at k from old (i + 1) (set present (from + i) x)
+copying-more {part} {s} {at} {k} {from} {old} {i} {present} w {x} {p} place is h room =
+    let here : x ≡ get_or (map part (claims_from s at k)) i 0 = is ∙ ap (λ (q : ℕ). part (claim_at s q)) place ∙ sym (part_in part s at k i h) in
+    let all : length (map part (claims_from s at k)) ≡ k = length-map (claims_from s at k) part ∙ length-claims s at k in
+    record {
+      same = length-set present (from + i) x ∙ w.same;
+      stored =
+          ap₂ (λ (l : List ℕ) (v : ℕ). set l (from + i) v) w.stored here
+          ∙ paste-suc old from (map part (claims_from s at k)) i 0 (omega arith) (omega (arith, all))
+          ∙ ap (paste old from (map part (claims_from s at k))) (sym (add-one i));
+    }
+
+module _ (part : Claim → ℕ) (s : List ℕ) (at k : ℕ) (old : List ℕ) where
+  -- stored from the first entry on
+  abbrev pub Parts : ℕ → List ℕ → Type 0
+  Parts = Copying part s at k 0 old
+
+  pub parts-more : {i x p : ℕ} {present : List ℕ} → Parts i present → p ≡ past_claims s at i → x ≡ part (claim_at s p) → i < k → k ≡ length old
       → Parts (i + 1) (set present i x)
-  parts-more {i} {x} {p} {present} stored place is h =
-      let own = length-map (claims_from s at i) part ∙ length-claims s at i in
-      let more = ap (map part) (claims-more s at i) ∙ map-append part (claims_from s at i) (claim_at s (past_claims s at i) ∷ []) in
-      ap₂ (λ (l : List ℕ) (v : ℕ). set l i v) stored (is ∙ ap (λ (q : ℕ). part (claim_at s q)) place)
-      ∙ filled_more (map part (claims_from s at i)) old (part (claim_at s (past_claims s at i))) own h
-      ∙ ap (λ (l : List ℕ). filled l old) (sym more)
+  parts-more {i} {x} {p} {present} w place is h room =
+      subst (λ (j : ℕ). Parts (i + 1) (set present j x)) (zero-add i) (copying-more w place is h (omega (arith, room)))
 
   -- all of as many as the buffer has entries
-  pub parts-all : {i k : ℕ} {present : List ℕ} → Parts i present → i ≡ k → length old ≡ k → present ≡ map part (claims_from s at k)
-  parts-all {i} {k} stored e n =
-      stored
-      ∙ ap (λ (j : ℕ). filled (map part (claims_from s at j)) old) e
-      ∙ filled_all (map part (claims_from s at k)) old (length-map (claims_from s at k) part ∙ length-claims s at k ∙ sym n)
+  pub parts-all : {i : ℕ} {present : List ℕ} → Parts i present → i ≡ k → k ≡ length old → present ≡ map part (claims_from s at k)
+  parts-all {i} w e n =
+      let these = map part (claims_from s at k) in
+      let all : length these ≡ k = length-map (claims_from s at k) part ∙ length-claims s at k in
+      w.stored ∙ ap (paste old 0 these) e ∙ filled-run [] old these refl all ∙ filled_all these old (all ∙ n)
 
 -- ---- the risks of a file
 

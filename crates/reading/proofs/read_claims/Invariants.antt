@@ -10,6 +10,7 @@ abbrev pub invariant-loop-i : goal.invariant-loop-i
 invariant-loop-i l =
     let s = l.file.bytes.now in
     let at = l.fn.span.first.at in
+    let k = l.fn.span.count in
     (l.next.at ≡ past_claims s at l.i)
-    × Parts dollars s at l.initial.claims l.i l.claims
-    × Parts bit s at l.initial.joined l.i l.joined
+    × Parts dollars s at k l.initial.claims l.i l.claims
+    × Parts bit s at k l.initial.joined l.i l.joined
