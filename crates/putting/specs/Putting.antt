@@ -34,7 +34,7 @@ given_group edition h counts claims joined = record {
   joined = joined;
 }
 
--- as one value, of an edition that is known
+-- the same given as one value, whose edition is a known one
 abbrev pub group_is : GroupValues → Group
 group_is v = given_group (edition_number v.edition) v.header v.counts.now v.claims.now v.joined.now
 
