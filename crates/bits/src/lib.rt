@@ -9,7 +9,7 @@ ghost use Rattle.bits.specs.Put.{Room, WholeBytes, Put, InByte};
 
 use words::{bits_after, extract, insert, word_within};
 
-// A place between two bits of a file, counted from its first bit.
+// A place between two bits of a file, counted from its first bit. It is handed on by value, beside the file, as the scope document has it.
 #[derive(Clone, Copy)]
 pub struct BitPlace {
     pub at: usize,
@@ -64,8 +64,8 @@ impl BitPlace {
         }
     }
 
-    // Puts the field of `width` bits at this place, a byte a turn, and gives the next place. Each turn goes on by as many bits as lie in the
-    // byte, a number that it finds anew: no range or iterator steps so.
+    // Puts the field of `width` bits at this place, a byte a turn, and gives the next place. Each turn goes on by as many bits as lie in
+    // the byte, a number that it finds anew: no range or iterator steps so.
     pub fn put(self, out: &mut [u8], width: u32, value: u32) -> BitPlace
         requires { Room out.old self.at width value }
         ensures next { result.at ≡ self.at + width }

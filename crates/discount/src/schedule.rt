@@ -24,7 +24,7 @@ pub struct Layer {
     pub rate: u32,
 }
 
-// A schedule: its layers, the first first.
+// A schedule: its layers, the first first. Four rows by value: the form that the scope document names.
 #[repr(C)]
 #[derive(Clone, Copy)]
 pub struct Schedule {

@@ -20,7 +20,7 @@ pub const MOST_MARK: u32 = 6000;
 
 pub const LARGEST_FILE: usize = 42378;
 
-// The header values, loss limit to minimum mark.
+// The header values, loss limit to minimum mark, each the number that C gives and gets, the mark kind too.
 #[repr(C)]
 #[derive(Clone, Copy, Default)]
 pub struct Header {

@@ -49,7 +49,7 @@ fn sum_of(total: i64, difference: i64) -> i64
 }
 
 // Puts what each risk is billed above or below guaranteed cost into a buffer with room; their sum. It asks nothing and stores
-// nothing else.
+// nothing else. Of what a `zip` with the buffer writes no proof knows anything, so a difference is stored by its risk's number.
 fn put_differences(terms: Terms, losses: RiskLosses<'_>, cost: u32, out: &mut [i64]) -> i64
     requires { length losses.each.now ≤ length out.old }
     ensures summed { result

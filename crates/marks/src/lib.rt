@@ -1,5 +1,6 @@
 // The two measures of a mark, both in thousandths, each with its own conversion to whole dollars, rounded down. A mark is one
-// of them from the moment it leaves the header until it is dollars, so that neither can be taken for the other.
+// of them from the moment it leaves the header until it is dollars, so that neither can be taken for the other. Each is a number of its
+// own type by value: the form that the scope document names.
 #![tactic(auto)]
 
 ghost use Rattle.std.specs.Prelude.{◌≡◌, ◌*◌, ◌^◌, ◌≤◌, ◌<◌};
@@ -45,7 +46,8 @@ impl EntryRatio {
 }
 
 impl Mark {
-    // The mark that the mark kind and its thousandths make: kind 0 a loss ratio, else an entry ratio.
+    // The mark that the mark kind and its thousandths make: kind 0 a loss ratio, else an entry ratio. A `From` of two numbers would not
+    // say which of them is the kind.
     pub fn of_kind(kind: u32, thousandths: u32) -> Mark
         ensures { mark_is result ≡ mark_of kind thousandths }
     {

@@ -1,5 +1,6 @@
 // The fields of a group file put one after another: the header's in two runs, the risks', and the fill. That the
-// values fit and the buffer has room was asked before.
+// values fit and the buffer has room was asked before: each function asks for the space of its own fields, which is a fact of those
+// fields, of the buffer and of the place, and of no value of its own.
 #![tactic(auto)]
 
 ghost use Rattle.std.specs.Prelude.{◌≡◌, ◌≤◌, length};
@@ -22,7 +23,7 @@ use header::{
 };
 use runs::{GivenClaims, put_claims};
 
-// The values of a group file as a caller gives them.
+// The values of a group file as a caller gives them. Claims and bits are two lists, as C gives them: that they are as many is asked later.
 #[derive(Clone, Copy)]
 pub struct GroupValues<'a> {
     pub edition: Edition,

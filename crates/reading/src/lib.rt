@@ -76,7 +76,7 @@ fn read_risks(
     }
 }
 
-// Reads a file of whatever bytes into buffers of whatever length.
+// Reads a file of whatever bytes into buffers of whatever length. C lends one for the claims and one for their bits.
 pub fn read(
     file: &[u8],
     counts: &mut [u8],
