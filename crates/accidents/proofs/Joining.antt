@@ -30,19 +30,15 @@ module _ {cs : List Claim} {limit : ℕ} {r : AccidentSums} (w : AccidentsSummed
   -- of 63 claims there is room for what ends and for a claim more
   pub accident-room : length cs ≤ most_claims → AccidentRoom r
   accident-room h = record {
-    begun = omega (arith, w.last);
     total = omega (arith, w.total, w.each);
     limited = omega (arith, w.total, w.each, limited-le-total);
-    bound = omega (arith, w.most, limited-le limit most_risk_losses);
   }
 
   -- and for two
   pub pair-room : length cs ≤ most_claims → PairRoom r
   pair-room h = record {
-    begun = omega (arith, w.last);
     total = omega (arith, w.total, w.each);
     limited = omega (arith, w.total, w.each, limited-le-total);
-    bound = omega (arith, w.most, limited-le limit most_risk_losses);
   }
 
   -- what the limit leaves of the last accident

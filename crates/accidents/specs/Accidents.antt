@@ -29,12 +29,10 @@ pub record PairOpens (w : ℕ) : Type 0 where
 
 -- ---- the sums
 
--- the last accident began within the sum, one more of the largest claims can be added, and so can what is left of an accident
+-- one more of the largest claims can be added, and so can what is left of an accident
 pub record AccidentRoom (r : AccidentSums) : Type 0 where
-  pub begun : r.start ≤ r.total
   pub total : r.total + largest_claim < 2 ^ 32
   pub limited : r.limited + most_risk_losses < 2 ^ 32
-  pub bound : r.most ≤ most_risk_losses
 
 -- where the last accident begins with a claim of this bit more
 pub record StartsWith (r : AccidentSums) (bit start : ℕ) : Type 0 where
@@ -52,10 +50,8 @@ pub record AccidentAdded (r : AccidentSums) (c : Claim) (q : AccidentSums) : Typ
 
 -- room for two claims, one after the other
 pub record PairRoom (r : AccidentSums) : Type 0 where
-  pub begun : r.start ≤ r.total
   pub total : r.total + 2 * largest_claim < 2 ^ 32
   pub limited : r.limited + 2 * most_risk_losses < 2 ^ 32
-  pub bound : r.most ≤ most_risk_losses
 
 -- two claims added, one after the other
 pub record PairAdded (r : AccidentSums) (c d : Claim) (q : AccidentSums) : Type 0 where

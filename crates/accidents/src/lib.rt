@@ -3,8 +3,7 @@
 #![tactic(auto)]
 
 ghost use Rattle.std.specs.Prelude.{◌≤◌};
-ghost use Rattle.accidents.specs.Accidents.{first_low, second_low, claim_in, PairOpens, AccidentsSummed};
-ghost use Rattle.accidents.specs.Accidents.{AccidentRoom, StartsWith, AccidentAdded, PairRoom, PairAdded, RunEnded};
+ghost use Rattle.plan.specs.Sizes.{most_risk_losses};
 
 use bits::BitPlace;
 use claims::claim::DOLLARS_WIDTH;
@@ -25,16 +24,22 @@ const PAIR_BITS: u64 = 9223376434901286912;
 const MOST_RISK_LOSSES: u32 = 66060225;
 
 // The sums of some claims of a risk, of which the last accident may go on: L of them, L of those before the last accident, and what
-// the limit leaves of the accidents before it. `most` is what the limit leaves of the largest accident.
+// the limit leaves of the accidents before it. `most` is what the limit leaves of the largest accident. What a claim or a pair more has
+// room for is asked of each function, since it is used up by what is added.
 #[derive(Clone, Copy)]
 pub struct AccidentSums {
     pub total: u32,
     pub start: u32,
     pub limited: u32,
     pub most: u32,
+    pub ghost begun: { start ≤ total },
+    pub ghost bound: { most ≤ most_risk_losses },
 }
 
 impl AccidentSums {
+    ghost use Rattle.accidents.specs.Accidents.{first_low, second_low, claim_in, PairOpens};
+    ghost use Rattle.accidents.specs.Accidents.{AccidentRoom, StartsWith, AccidentAdded, PairRoom, PairAdded, RunEnded};
+
     // The sum at which the last accident begins, with one claim more, by its bit: one that opens an accident begins it behind all
     // others.
     fn start_with(self, joined: u32) -> u32
@@ -112,6 +117,8 @@ impl AccidentSums {
 }
 
 impl Sums for AccidentSums {
+    ghost use Rattle.accidents.specs.Accidents.{AccidentsSummed};
+
     const BITS: u32 = 1;
 
     ghost BITS = { 1 };

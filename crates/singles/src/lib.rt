@@ -29,7 +29,7 @@ impl ClaimSums {
         ClaimSums {
             total,
             limited,
-            most: self.most,
+            ..self
         }
     }
 }

@@ -29,7 +29,14 @@ returns c =
     let first = c.extract-first.ensures in
     let second = c.extract-second.ensures in
     record {
-      between = record { total = r.total + c.extract-first.result; start = r.total; limited = r.limited + c.min.result; most = r.most };
+      between = record {
+        total = r.total + c.extract-first.result;
+        start = r.total;
+        limited = r.limited + c.min.result;
+        most = r.most;
+        begun = omega arith;
+        bound = r.bound;
+      };
       first =
           opened c.requires.1.first (ap (λ (x : ℕ). r.total + x) first) refl (ap (λ (x : ℕ). r.limited + x) c.min.ensures) refl;
       second =
