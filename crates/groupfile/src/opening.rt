@@ -10,7 +10,7 @@ ghost use Rattle.groupfile.specs.Opening.{OpenedIs, OutlineIs};
 
 use bits::BitPlace;
 use claims::edition::{ClaimFile, Edition};
-use counts::count_claims;
+use counts::{Counted, count_claims};
 use group::{GroupLosses, Header, Refusal};
 use header::{FileHeader, header_of, header_verdict};
 use walking::walk;
@@ -47,11 +47,12 @@ pub struct Outline {
     pub run: RiskRun,
 }
 
-// Questions 8, 9 and 19 of a file whose last field ends at a place; `opened` is whether each risk's first claim opens an accident.
-fn end_verdict(file: &[u8], end: BitPlace, opened: bool) -> Result<(), Refusal>
-    requires { (end.at ≡ end_of file.now) × (opened ≡ all_open (risks_of file.now)) }
+// Questions 8, 9 and 19 of a file, by what its counts tell.
+fn end_verdict(file: &[u8], counted: Counted) -> Result<(), Refusal>
+    requires { (counted.end.at ≡ end_of file.now) × (counted.opened ≡ all_open (risks_of file.now)) }
     ensures { verdict_is result ≡ first_no (end_questions file.now) }
 {
+    let end = counted.end;
     if file.len() != end.at.div_ceil(8) {
         return Err(Refusal::Length);
     }
@@ -60,16 +61,16 @@ fn end_verdict(file: &[u8], end: BitPlace, opened: bool) -> Result<(), Refusal>
     if fill.value != 0 {
         return Err(Refusal::Fill);
     }
-    if !opened {
+    if !counted.opened {
         return Err(Refusal::FirstJoined);
     }
     Ok(())
 }
 
-// Questions 1 to 9 and 19 of a file with this header, whose last field ends at a place.
-fn file_verdict(file: &[u8], header: FileHeader, end: BitPlace, opened: bool) -> Result<(), Refusal>
+// Questions 1 to 9 and 19 of a file with this header, by what its counts tell.
+fn file_verdict(file: &[u8], header: FileHeader, counted: Counted) -> Result<(), Refusal>
     requires file_header_is { FileHeaderIs file.now header }
-    requires at_value { (end.at ≡ end_of file.now) × (opened ≡ all_open (risks_of file.now)) }
+    requires at_value { (counted.end.at ≡ end_of file.now) × (counted.opened ≡ all_open (risks_of file.now)) }
     ensures { verdict_is result ≡ first_no (file_questions file.now) }
 {
     if file.len() < HEADER_BYTES {
@@ -80,7 +81,7 @@ fn file_verdict(file: &[u8], header: FileHeader, end: BitPlace, opened: bool) ->
         return Err(Refusal::Edition);
     }
     header_verdict(header.values, header.risks as usize)?;
-    end_verdict(file, end, opened)
+    end_verdict(file, counted)
 }
 
 // Opens a file of whatever bytes.
@@ -93,12 +94,12 @@ pub fn open(file: &[u8]) -> Opened<()>
     let claim_file = ClaimFile::new(file, header.edition);
     let walked = walk(&claim_file, first, header.risks, values.loss_limit);
     Opened {
-        verdict: file_verdict(file, header, walked.end, walked.opened),
+        verdict: file_verdict(file, header, walked.counted),
         header: values,
         run: RiskRun {
             edition: header.edition,
             first,
-            claims: walked.claims,
+            claims: walked.counted.claims,
         },
         losses: walked.losses,
     }
@@ -115,7 +116,7 @@ pub fn open_outline(file: &[u8]) -> Outline
     let risks = header.risks;
     let counted = count_claims(&claim_file, first, risks);
     Outline {
-        verdict: file_verdict(file, header, counted.end, counted.opened),
+        verdict: file_verdict(file, header, counted),
         header: header.values,
         risks,
         run: RiskRun {

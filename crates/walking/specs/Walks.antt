@@ -11,11 +11,11 @@ use Rattle.walking.specs.declared.Walked.{Walked}
 abbrev pub sums_of : Walked → SumsSoFar
 sums_of r = record {
   risks = length r.losses.of_risks.items;
-  claims = r.claims;
-  opened = r.opened;
+  claims = r.counted.claims;
+  opened = r.counted.opened;
   total = r.losses.total;
   limited = r.losses.limited;
-  next = r.end;
+  next = r.counted.end;
 }
 
 -- all of the first n risks: the running sums over them, and L and A of each

@@ -11,16 +11,14 @@ ghost use Rattle.walking.specs.Walks.{WalkIs};
 use arrayvec::ArrayVec;
 use bits::BitPlace;
 use claims::edition::ClaimFile;
+use counts::Counted;
 use group::GroupLosses;
 use risks::{SumsSoFar, pass_risk};
 
-// What the walk gives: the place where the last field ends, how many claims there are, whether each risk's first claim opens an
-// accident, and the losses.
+// What the walk gives: what the counts tell, and the losses.
 #[derive(Drop)]
 pub struct Walked {
-    pub end: BitPlace,
-    pub claims: u32,
-    pub opened: bool,
+    pub counted: Counted,
     pub losses: GroupLosses,
 }
 
@@ -44,9 +42,11 @@ pub fn walk(file: &ClaimFile<'_>, place: BitPlace, risks: u32, limit: u32) -> Wa
         sums = risk.sums;
     }
     Walked {
-        end: sums.next,
-        claims: sums.claims,
-        opened: sums.opened,
+        counted: Counted {
+            end: sums.next,
+            claims: sums.claims,
+            opened: sums.opened,
+        },
         losses: GroupLosses {
             of_risks,
             total: sums.total,
