@@ -40,8 +40,8 @@ impl AccidentSums {
     ghost use Rattle.accidents.specs.Accidents.{first_low, second_low, claim_in, PairOpens};
     ghost use Rattle.accidents.specs.Accidents.{AccidentRoom, StartsWith, AccidentAdded, PairRoom, PairAdded, RunEnded};
 
-    // The sum at which the last accident begins, with one claim more, by its bit: one that opens an accident begins it behind all
-    // others.
+    // The sum at which the last accident begins, with one claim more, by its bit, as the file has it: one that opens an accident begins
+    // it behind all others.
     fn start_with(self, joined: u32) -> u32
         ensures { StartsWith self joined result }
     {
@@ -116,6 +116,7 @@ impl AccidentSums {
     }
 }
 
+// What the methods above say of the sums, in the trait's terms: of the claims that they are of.
 impl Sums for AccidentSums {
     ghost use Rattle.accidents.specs.Accidents.{AccidentsSummed};
 

@@ -19,7 +19,7 @@ pub const MOST_CLAIM_WIDTH: u32 = 21;
 // The largest claim.
 pub const LARGEST_CLAIM: u32 = 1048575;
 
-// A claim, its bit and its dollars, and the place where it ended.
+// A claim, its bit and its dollars, and the place where it ended. The bit stays the number that the file has and that Read stores.
 #[derive(Clone, Copy)]
 pub struct TakenClaim {
     pub joined: u32,

@@ -11,7 +11,8 @@ use std::error::Error;
 use std::fmt;
 
 // Sizes by name, as plan's Sizes has them: the most risks of a group, the most claims of a risk, the largest mark in
-// thousandths, and the bytes of the largest file.
+// thousandths, and the bytes of the largest file. What takes a number of risks by itself asks that it be at most the first: as a type it
+// would be made for one call and opened at once.
 pub const MOST_RISKS: usize = 255;
 
 pub const MOST_CLAIMS: u32 = 63;

@@ -16,7 +16,8 @@ use counts::head_at;
 use group::{Header, Refusal};
 use groupfile::opening::{Outline, open_outline};
 
-// What Read gives beside the buffers: the number of the edition, as C gets it, the number of risks and the header values.
+// What Read gives beside the buffers: the number of the edition, as the file has it and C gets it, the number of risks and the header
+// values. An `Edition` would have to be made of that number again, with an `Err` that never comes.
 #[derive(Clone, Copy)]
 pub struct ReadValues {
     pub edition: u32,
@@ -49,7 +50,7 @@ fn read_claims(
 }
 
 // The risks from a place on, as many as there are entries for their counts: their counts, claims and bits, into buffers with room for
-// them.
+// them. How many entries a risk takes is known when its count is, so no iterator cuts them.
 fn read_risks(
     file: &ClaimFile<'_>,
     place: BitPlace,

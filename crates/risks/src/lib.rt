@@ -46,7 +46,7 @@ pub struct PassedRisk {
     pub sums: SumsSoFar,
 }
 
-// Claims by the sums of their edition.
+// Claims by the sums of their edition. The loss limit is no part of the file here: Read takes a file without one.
 pub fn claims_at(file: &ClaimFile<'_>, span: ClaimSpan, limit: u32) -> ClaimRun
     ensures { ClaimsAre file.now.bytes.now span.first.at span.count limit result }
 {

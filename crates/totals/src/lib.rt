@@ -26,7 +26,7 @@ impl BasicPremium {
 }
 
 // What the premiums of a plan share: n, c, T, Q, and the maximum and the minimum premium, G and H, in dollars. A premium by them fits
-// 64 bits, whatever G and H are.
+// 64 bits, whatever G and H are. Of `Terms` it has n, c, T and Q, but no basic premium, and premiums in the place of LG and LH.
 #[derive(Clone, Copy)]
 pub struct PlanTerms {
     pub risks: u32,

@@ -37,17 +37,15 @@ loop-i-preserved c =
     )
 
 -- all are passed
+module _ (c : goal.After-loop-i) where
+  all : c.loop-i.i ≡ c.args.span.count
+  all = omega (arith, c.loop-i-test.false, c.loop-i.auto.i-end, c.requires.0)
+
 pub returns-clause-placed : goal.returns-clause-placed
-returns-clause-placed c =
-    let all : c.loop-i.i ≡ c.args.span.count = omega (arith, c.loop-i-test.false, c.loop-i.auto.i-end, c.requires.0) in
-    c.loop-i.invariant.0 ∙ ap (plan.past_claims c.args.file.now.bytes.now c.args.span.first.at) all
+returns-clause-placed c = c.loop-i.invariant.0 ∙ ap (plan.past_claims c.args.file.now.bytes.now c.args.span.first.at) (all c)
 
 pub returns-clause-claimed : goal.returns-clause-claimed
-returns-clause-claimed c =
-    let all : c.loop-i.i ≡ c.args.span.count = omega (arith, c.loop-i-test.false, c.loop-i.auto.i-end, c.requires.0) in
-    parts-all dollars c.args.file.now.bytes.now c.args.span.first.at c.args.span.count c.args.claims.now c.loop-i.invariant.1 all (sym c.requires.0)
+returns-clause-claimed c = parts-all _ _ _ _ _ c.loop-i.invariant.1 (all c) (sym c.requires.0)
 
 pub returns-clause-joining : goal.returns-clause-joining
-returns-clause-joining c =
-    let all : c.loop-i.i ≡ c.args.span.count = omega (arith, c.loop-i-test.false, c.loop-i.auto.i-end, c.requires.0) in
-    parts-all bit c.args.file.now.bytes.now c.args.span.first.at c.args.span.count c.args.joined.now c.loop-i.invariant.2 all (sym c.requires.1)
+returns-clause-joining c = parts-all _ _ _ _ _ c.loop-i.invariant.2 (all c) (sym c.requires.1)
