@@ -20,9 +20,10 @@ first_slots edition h = take 5 (header_slots edition h 0)
 abbrev pub last_slots : Header → ℕ → List Slot
 last_slots h n = drop 5 (header_slots 0 h n)
 
--- a risk's fields in an edition, of its claims: the number of them, then they
-abbrev pub slots_of_risk : ℕ → GivenClaims → List Slot
-slots_of_risk edition given = slot count_width (length given.dollars.now) ∷ slots_of_claims edition (claims_are given)
+-- a risk's fields in the edition of its claims: the number of them, then they
+abbrev pub slots_of_risk : GivenClaims → List Slot
+slots_of_risk given =
+    slot count_width (length given.dollars.now) ∷ slots_of_claims (edition_number given.edition) (claims_are given)
 
 -- the values that a caller hands to Write
 abbrev pub given_group : ℕ → group.Header → List ℕ → List ℕ → List ℕ → Group

@@ -60,34 +60,27 @@ fn put_last(out: &mut [u8], place: BitPlace, h: Header, risks: u32) -> BitPlace
 }
 
 // Puts a risk: the number of its claims, then its claims.
-fn put_risk(out: &mut [u8], place: BitPlace, edition: Edition, claims: GivenClaims<'_>) -> BitPlace
-    requires { Space out.old place.at (slots_of_risk (edition_number edition) claims) }
-    ensures { Wrote out.old place.at (slots_of_risk (edition_number edition) claims.entry)
-        out.new result.at }
+fn put_risk(out: &mut [u8], place: BitPlace, claims: GivenClaims<'_>) -> BitPlace
+    requires { Space out.old place.at (slots_of_risk claims) }
+    ensures { Wrote out.old place.at (slots_of_risk claims.entry) out.new result.at }
 {
     let next = place.put(out, COUNT_WIDTH, claims.dollars.len() as u32);
-    put_claims(out, next, edition, claims)
+    put_claims(out, next, claims)
 }
 
 // Puts the risks, each with as many of the claims as its count says.
-fn put_risks(
-    out: &mut [u8],
-    place: BitPlace,
-    edition: Edition,
-    counts: &[u8],
-    claims: GivenClaims<'_>,
-) -> BitPlace
-    requires space { Space out.old place.at (slots_of_risks (edition_number edition) counts.now (claims_are claims)) }
+fn put_risks(out: &mut [u8], place: BitPlace, counts: &[u8], claims: GivenClaims<'_>) -> BitPlace
+    requires space { Space out.old place.at (slots_of_risks (edition_number claims.edition) counts.now (claims_are claims)) }
     requires counts_in_bounds { sum counts.now ≤ length claims.dollars.now }
     ensures { Wrote out.old place.at
-        (slots_of_risks (edition_number edition) counts.now (claims_are claims.entry))
+        (slots_of_risks (edition_number claims.entry.edition) counts.now (claims_are claims.entry))
         out.new result.at }
 {
     let mut next = place;
     let mut claims_left = claims;
     for &count in counts {
         let (own_claims, later_claims) = claims_left.split_at(usize::from(count));
-        next = put_risk(out, next, edition, own_claims);
+        next = put_risk(out, next, own_claims);
         claims_left = later_claims;
     }
     next
@@ -99,12 +92,13 @@ pub fn put_file(out: &mut [u8], values: &GroupValues<'_>)
     ensures { out.new ≡ file_of (group_is values.now) }
 {
     let claims = GivenClaims {
+        edition: values.edition,
         joined: values.joined,
         dollars: values.claims,
     };
     let first = put_first(out, values.edition, values.header);
     let last = put_last(out, first, values.header, values.counts.len() as u32);
-    let end = put_risks(out, last, values.edition, values.counts, claims);
+    let end = put_risks(out, last, values.counts, claims);
     let fill = 8 * out.len() - end.at;
     end.put(out, fill as u32, 0);
 }

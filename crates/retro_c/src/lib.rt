@@ -219,14 +219,10 @@ pub extern "C" fn retro_plan(
     match premium_plans::plan(file, maximum, minimum, trials) {
         Err(refusal) => refusal.into(),
         Ok(p) => {
-            // The number that C gets where none is known to fall short is −1.
-            let short = match p.short_of {
-                Some(short) => short as i32,
-                None => -1,
-            };
             *made = p.made;
             *best = p.best;
-            *short_of = short;
+            // The number that C gets where none is known to fall short is −1.
+            *short_of = p.short_of.map_or(-1, |short| short as i32);
             0
         }
     }

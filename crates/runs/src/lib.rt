@@ -71,18 +71,13 @@ fn put_run<const JOINS: bool>(out: &mut [u8], place: BitPlace, claims: GivenClai
     next.put(out, width, last)
 }
 
-// Puts claims of an edition, and gives the place after them.
-pub fn put_claims(
-    out: &mut [u8],
-    place: BitPlace,
-    edition: Edition,
-    claims: GivenClaims<'_>,
-) -> BitPlace
-    requires { Space out.old place.at (slots_of_claims (edition_number edition) (claims_are claims)) }
+// Puts claims as their edition has them, and gives the place after them.
+pub fn put_claims(out: &mut [u8], place: BitPlace, claims: GivenClaims<'_>) -> BitPlace
+    requires { Space out.old place.at (slots_of_claims (edition_number claims.edition) (claims_are claims)) }
     ensures { Wrote out.old place.at
-        (slots_of_claims (edition_number edition) (claims_are claims.entry)) out.new result.at }
+        (slots_of_claims (edition_number claims.entry.edition) (claims_are claims.entry)) out.new result.at }
 {
-    match edition {
+    match claims.edition {
         Edition::First => put_run::<false>(out, place, claims),
         Edition::Second => put_run::<true>(out, place, claims),
     }

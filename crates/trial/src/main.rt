@@ -9,8 +9,18 @@ use std::io;
 use tables::table;
 use writing::writer::write;
 
-fn print_refused(rt: &impl Print, refusal: Refusal) -> io::Result<()> {
-    println!(rt; " refused {refusal}")
+// A call's answer: the refusal, or what `print` makes of what is given.
+fn show<T, F: FnOnce(T) -> io::Result<()> + Drop>(
+    rt: &impl Print,
+    answer: Result<T, Refusal>,
+    print: F,
+) -> io::Result<()>
+    requires { F.IsAlwaysCallable print }
+{
+    match answer {
+        Err(refusal) => println!(rt; " refused {refusal}"),
+        Ok(given) => print(given),
+    }
 }
 
 fn print_line(rt: &impl Print, s: &[u8]) -> io::Result<()> {
@@ -69,37 +79,29 @@ fn show_edition(
     out: &mut [u8],
 ) -> io::Result<usize> {
     print!(rt; "{label}")?;
-    match write(edition, h, counts, claims, joined, out) {
-        Err(refusal) => {
-            print_refused(rt, refusal)?;
-            Ok(0)
-        }
-        Ok(n) => {
-            println!(rt; " length {n}")?;
-            Ok(n)
-        }
-    }
+    let written = write(edition, h, counts, claims, joined, out);
+    show(rt, written, |n| println!(rt; " length {n}"))?;
+    Ok(written.unwrap_or(0))
 }
 
 // Rate: n, M, Q, the sum billed, then the bytes of the premiums.
 fn show_rate(rt: &impl Print, label: &str, file: &[u8], premiums: &mut [u8]) -> io::Result<()> {
     print!(rt; "{label}")?;
-    match rate(file, premiums) {
-        Err(refusal) => print_refused(rt, refusal),
-        Ok(g) => {
-            print!(rt; " rated {} {} {} {} ", g.risks, g.basic, g.excess, g.billed)?;
-            print_line(rt, premiums)
-        }
-    }
+    let rated = rate(file, premiums);
+    show(rt, rated, |g| {
+        print!(rt; " rated {} {} {} {} ", g.risks, g.basic, g.excess, g.billed)?;
+        print_line(rt, premiums)
+    })
 }
 
 // Table: charge and savings.
 fn show_table(rt: &impl Print, label: &str, file: &[u8], r: u32) -> io::Result<()> {
     print!(rt; "{label} {r}")?;
-    match table(file, r) {
-        Err(refusal) => print_refused(rt, refusal),
-        Ok(t) => { println!(rt; ": {} {}", t.charge, t.savings) }
-    }
+    show(
+        rt,
+        table(file, r),
+        |t| println!(rt; ": {} {}", t.charge, t.savings),
+    )
 }
 
 // The header values after the number of risks.
@@ -124,16 +126,14 @@ fn show_read(
     joined: &mut [u8],
 ) -> io::Result<()> {
     print!(rt; "{label}")?;
-    match read(file, counts, claims, joined) {
-        Err(refusal) => print_refused(rt, refusal),
-        Ok(g) => {
-            print_header(rt, g.risks, g.header)?;
-            print_line(rt, counts)?;
-            print_numbers(rt, claims)?;
-            print!(rt; "\n edition {} ", g.edition)?;
-            print_line(rt, joined)
-        }
-    }
+    let given = read(file, counts, claims, joined);
+    show(rt, given, |g| {
+        print_header(rt, g.risks, g.header)?;
+        print_line(rt, counts)?;
+        print_numbers(rt, claims)?;
+        print!(rt; "\n edition {} ", g.edition)?;
+        print_line(rt, joined)
+    })
 }
 
 // The group of four risks read back into buffers with room to spare.

@@ -14,17 +14,18 @@ pub put_risk-next-requires : goal.put_risk-next-requires
 put_risk-next-requires c =
     let p = c.split_at in
     space-first _ _
-    (next c.loop-count.invariant c.loop-count-test.true p.result.0 p.result.1 c.from.ensures p.ensures.front p.ensures.back).space
+    (next c.loop-count.invariant c.loop-count-test.true p.result.0 p.result.1 c.from.ensures p.ensures.front p.ensures.back
+    p.ensures.same_edition).space
 
 pub loop-count-preserved : goal.loop-count-preserved
 loop-count-preserved c =
     let p = c.split_at in
     goes_on c.loop-count.invariant c.loop-count-test.true p.result.0 p.result.1 c.from.ensures p.ensures.front p.ensures.back
-    c.put_risk-next.ensures
+    p.ensures.same_edition c.put_risk-next.ensures
 
 pub returns : goal.returns
 returns c =
     putting-ends
     (putting-as c.loop-count.invariant.putting
-    (ap (λ (x : List ℕ). slots_of_risks (edition_number c.args.edition) x (claims_are c.loop-count.claims_left))
+    (ap (λ (x : List ℕ). slots_of_risks (edition_number c.args.claims.edition) x (claims_are c.loop-count.claims_left))
     (drop_of_length-le c.args.counts.now c.loop-count-test.false)))

@@ -6,5 +6,5 @@ use Rattle.putting.proofs.put_risks.Given as goal
 
 abbrev pub invariant-loop-count : goal.invariant-loop-count
 invariant-loop-count l =
-    Risks l.fn.out l.fn.place.at (edition_number l.edition) l.counts (claims_are l.claims) l.out l.next.at l.count-index
+    Risks l.fn.out l.fn.place.at (edition_number l.claims.edition) l.counts (claims_are l.claims) l.out l.next.at l.count-index
     l.claims_left
