@@ -32,7 +32,8 @@ module _ (t : Terms) (a : ℕ) {tax n c k : ℕ} (tax_is : tax ≡ t.tax) (n_is 
   }
 
 -- the code's own
-at-hand : (c : After-from-2) → Billed c.args.self.now c.args.limited c.from.ensures c.from-n.ensures c.from-2.ensures (c.from-k.ensures ∙ c.ratable_of.ensures)
+at-hand : (c : After-from-2)
+    → Billed c.args.self.now c.args.limited c.from.ensures c.from-n.ensures c.from-2.ensures (c.from-k.ensures ∙ c.ratable_of.ensures)
 at-hand c = billed c.args.self.now c.args.limited c.from.ensures c.from-n.ensures c.from-2.ensures (c.from-k.ensures ∙ c.ratable_of.ensures)
 
 pub overflow_mul-numerator-3 : goal.overflow_mul-numerator-3
