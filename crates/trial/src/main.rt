@@ -87,7 +87,7 @@ fn show_rate(rt: &impl Print, label: &str, file: &[u8], premiums: &mut [u8]) -> 
     match rate(file, premiums) {
         Err(refusal) => print_refused(rt, refusal),
         Ok(g) => {
-            print!(rt; " rated {} {} {} {} ", g.risks, g.basic, g.excess, g.billed)?;
+            print!(rt; " rated {g} ")?;
             print_line(rt, premiums)
         }
     }
