@@ -1,25 +1,39 @@
--- What the gate of questions 1 to 12 gives, to a call that goes on from it: where it gives terms, the questions pass, the terms are
--- the file's own, and the bills by them are step 6's premiums. Assumes nothing.
-use Rattle.std.proofs.Common.{◌≡◌, sym, ap, ap₂, ◌∙◌, List, map, ℕ, length, get_or, Ok}
+-- What the gate of questions 1 to 12 gives, to a call that goes on from it: its refusal is the questions' No; where it gives terms, the
+-- questions pass, the terms are the file's own, and the bills by them are step 6's premiums. Assumes nothing.
+use Rattle.std.proofs.Common.{◌≡◌, sym, ap, ap₂, ◌∙◌, List, map, ℕ, length, get_or, Ok, Err}
 use Rattle.plan.specs.Header.{header_of, risk_count}
 use Rattle.plan.specs.Losses.{Losses, losses_in}
 use Rattle.plan.specs.Premium as plan
 use Rattle.plan.specs.Premium.{terms_of, bill_with, billed_premium, billed_premiums}
-use Rattle.plan.specs.Questions.{passed, first_no, rating_questions}
+use Rattle.plan.specs.Questions.{passed, failed, first_no, rating_questions}
 use Rattle.plan.specs.Calls.{answer}
-use Rattle.plan.proofs.Questions.{given-passed}
+use Rattle.plan.proofs.Questions.{given-passed, refused-failed}
 use Rattle.plan.proofs.Losses.{length-losses}
-use Rattle.group.specs.Refusals.{answer_is}
+use Rattle.group.specs.Refusals.{number_of, answer_is}
 use Rattle.group.specs.Values.{losses_of, losses_is, LossesAre}
 use Rattle.group.specs.declared.Losses as group
+use Rattle.group.specs.declared.Refusal.{Refusal}
 use Rattle.group.specs.declared.GroupLosses.{GroupLosses}
 use Rattle.group.proofs.Group.{risks}
 use Rattle.steps.specs.Terms.{terms_is}
 use Rattle.steps.specs.declared.bill.Terms.{Terms}
+use Rattle.groupfile.specs.declared.opening.Opened.{Opened}
+use Rattle.gates.specs.Gates.{RatingOpenedIs}
 
 -- what stands past the last risk
 abbrev pub no_losses : Losses
 no_losses = record { total = 0; limited = 0 }
+
+-- what is known of the verdict that the gate gave, by its case
+pub gives : {s : List ℕ} {o : Opened Terms} {t : Terms} → RatingOpenedIs s o → o.verdict ≡ Ok t
+    → answer_is terms_is (Ok t) ≡ answer (first_no (rating_questions s)) (terms_of (header_of s) (losses_in s))
+gives x e = sym (ap (answer_is terms_is) e) ∙ x.verdict
+
+pub refuses : {s : List ℕ} {o : Opened Terms} {k : Refusal} → RatingOpenedIs s o → o.verdict ≡ Err k
+    → first_no (rating_questions s) ≡ failed (number_of k)
+refuses {s} x e =
+    refused-failed (first_no (rating_questions s)) (terms_of (header_of s) (losses_in s))
+    (sym x.verdict ∙ ap (answer_is terms_is) e)
 
 module _ (s : List ℕ) (t : Terms)
     (gave : answer_is terms_is (Ok t) ≡ answer (first_no (rating_questions s)) (terms_of (header_of s) (losses_in s))) where

@@ -27,22 +27,14 @@ fn losses_verdict(limited: u64) -> Result<(), Refusal>
 pub fn open_losses(file: &[u8]) -> Opened<()>
     ensures { OpenedIs (loss_questions file.now) file.now result }
 {
-    let Opened {
-        verdict,
-        header,
-        run,
-        losses,
-    } = open(file);
-    let verdict = verdict.and(losses_verdict(losses.limited));
+    let opened = open(file);
     Opened {
-        verdict,
-        header,
-        run,
-        losses,
+        verdict: opened.verdict.and(losses_verdict(opened.losses.limited)),
+        ..opened
     }
 }
 
-// Questions 1 to 12, and where they pass the terms of the file's group.
+// Questions 1 to 12, and where they pass the terms of the file's group. The verdict's type changes, so each field is named.
 pub fn open_rating(file: &[u8]) -> Opened<Terms>
     ensures { RatingOpenedIs file.now result }
 {

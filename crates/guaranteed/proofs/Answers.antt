@@ -9,7 +9,7 @@ use Rattle.plan.specs.Field.{slots, bytes_of}
 use Rattle.plan.specs.Header.{header_of, risk_count}
 use Rattle.plan.specs.Losses.{losses_in}
 use Rattle.plan.specs.Premium as plan
-use Rattle.plan.specs.Premium.{terms_of, billed_premiums}
+use Rattle.plan.specs.Premium.{terms_of}
 use Rattle.plan.specs.Questions.{Verdict, passed, failed, first_no, or_else, rating_questions, rate_enough, question13}
 use Rattle.plan.specs.Calls.{Answer, given, answer, giving, filled, buffer_after, rated_of, premium_bytes}
 use Rattle.plan.specs.Discount.{Layer, discount, guaranteed_cost, rates_pass}
@@ -102,9 +102,6 @@ module _ (s : List ℕ) (ls : List Layer) (t : Terms)
       (summed : c.difference ≡ sum_z (λ z. z) (differences_of c.guaranteed (bills_of t (losses_of xs))))
       (put : premiums ≡ filled (bytes_of (slots 32 (bills_of t (losses_of xs)))) old_premiums)
       (put-too : differences ≡ filled (differences_of c.guaranteed (bills_of t (losses_of xs))) old_differences) where
-    bills_are : bills_of t (losses_of xs) ≡ billed_premiums (header_of s) (losses_in s)
-    bills_are = lent-bills s t gave losses lent
-
     cost-is : c.guaranteed ≡ guaranteed_cost ls (header_of s).standard_premium
     unfolding guaranteed_cost
     cost-is = less ∙ ap (λ (x : ℕ). (header_of s).standard_premium - x) discounted
@@ -112,7 +109,7 @@ module _ (s : List ℕ) (ls : List Layer) (t : Terms)
     -- the differences of the file's own bills
     differences_are : differences_of c.guaranteed (bills_of t (losses_of xs)) ≡ all.differences
     unfolding comparison_of
-    differences_are = λ i. differences_of (cost-is i) (bills_are i)
+    differences_are = λ i. differences_of (cost-is i) (lent-bills s t gave losses lent i)
 
     numbers_are : numbers_given c ≡ numbers_with all t.basic
     unfolding comparison_of rated_of
@@ -120,7 +117,7 @@ module _ (s : List ℕ) (ls : List Layer) (t : Terms)
       risks = (ap (λ (f : GroupFigures). f.risks) rated ∙ ap (λ (x : plan.Terms). x.risks) (terms-are s t gave)) i;
       basic = (rated i).basic;
       excess = (ap (λ (f : GroupFigures). f.excess) rated ∙ ap (λ (x : plan.Terms). x.excess) (terms-are s t gave)) i;
-      billed = (ap (λ (f : GroupFigures). f.billed) rated ∙ ap sum bills_are) i;
+      billed = (ap (λ (f : GroupFigures). f.billed) rated ∙ ap sum (lent-bills s t gave losses lent)) i;
       discount = discounted i;
       guaranteed = cost-is i;
       difference = (summed ∙ ap (sum_z (λ z. z)) differences_are) i;
@@ -132,7 +129,7 @@ module _ (s : List ℕ) (ls : List Layer) (t : Terms)
 
     left : premiums ≡ filled (premium_bytes all.rated) old_premiums
     unfolding comparison_of rated_of
-    left = put ∙ ap (λ (ps : List ℕ). filled (bytes_of (slots 32 ps)) old_premiums) bills_are
+    left = put ∙ ap (λ (ps : List ℕ). filled (bytes_of (slots 32 ps)) old_premiums) (lent-bills s t gave losses lent)
 
     left-too : differences ≡ filled all.differences old_differences
     left-too = put-too ∙ ap (λ (zs : List ℤ). filled zs old_differences) differences_are

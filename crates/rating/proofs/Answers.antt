@@ -51,9 +51,6 @@ module _ (s old : List ℕ) where
 module _ (s : List ℕ) (t : Terms)
     (gave : answer_is terms_is (Ok t) ≡ answer (first_no (rating_questions s)) (terms_of (header_of s) (losses_in s)))
     {g : GroupLosses} (losses : LossesAre (losses_in s) g) {xs : List group.Losses} (lent : xs ≡ g.of_risks.items) where
-  bills_are : bills_of t (losses_of xs) ≡ billed_premiums (header_of s) (losses_in s)
-  bills_are = lent-bills s t gave losses lent
-
   module _ (old new : List ℕ) {f : GroupFigures} (room : 4 * t.risks ≤ length old) (figures : f ≡ figures_by t (losses_of xs))
       (put : new ≡ filled (bytes_of (slots 32 (bills_of t (losses_of xs)))) old) where
     is-given : rate s (length old) ≡ given (rated_of (header_of s) (losses_in s))
@@ -63,12 +60,12 @@ module _ (s : List ℕ) (t : Terms)
         answered (rated_of (header_of s) (losses_in s)) (verdict s old (passes s t gave) (le-leb _ _ enough))
 
     billed_is : sum (bills_of t (losses_of xs)) ≡ sum (billed_premiums (header_of s) (losses_in s))
-    billed_is = ap sum bills_are
+    billed_is = ap sum (lent-bills s t gave losses lent)
 
     left : new ≡ rate_buffer s old
     unfolding rated_of
     left =
-        put ∙ ap (λ (ps : List ℕ). filled (bytes_of (slots 32 ps)) old) bills_are
+        put ∙ ap (λ (ps : List ℕ). filled (bytes_of (slots 32 ps)) old) (lent-bills s t gave losses lent)
         ∙ sym (ap (λ (a : Answer Rated). buffer_after premium_bytes a old) is-given)
 
     pub given-says : RateSays s old (Ok f) new

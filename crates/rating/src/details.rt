@@ -16,7 +16,7 @@ pub struct Details {
     pub ratables: ArrayVec<u32, MOST_RISKS>,
 }
 
-// K of each limited losses.
+// K of each limited losses. A `collect` into an ArrayVec would have an Err that never comes.
 fn ratables_of(losses: RiskLosses<'_>, minimum: u32, maximum: u32) -> ArrayVec<u32, MOST_RISKS>
     ensures { result.items ≡ map (λ x. clamp minimum maximum x.limited) losses.entry.each.now }
 {

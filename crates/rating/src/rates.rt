@@ -10,6 +10,7 @@ use bits::BitPlace;
 use gates::open_rating;
 use group::{Refusal, RiskLosses};
 use groupfile::opening::Opened;
+use std::fmt;
 use steps::bill::Terms;
 
 // What Rate gives beside the premiums: n, M, Q and the sum billed.
@@ -19,6 +20,16 @@ pub struct GroupFigures {
     pub basic: u64,
     pub excess: u64,
     pub billed: u64,
+}
+
+impl fmt::Display for GroupFigures {
+    fn fmt<W: fmt::Write>(&self, f: &mut fmt::Formatter<W>) -> fmt::Result {
+        write!(
+            f,
+            "{} {} {} {}",
+            self.risks, self.basic, self.excess, self.billed
+        )
+    }
 }
 
 // Bills a group: puts the bill of each risk into a buffer with room, 32 bits each from its start on, and gives the group's figures.

@@ -35,8 +35,8 @@ fn read_input<R: Read>(reader: &mut R, input: &mut [u8]) -> io::Result<usize>
 }
 
 // The word, n, M, Q and the sum billed.
-fn print_group(rt: &impl Print, g: GroupFigures) -> io::Result<()> {
-    println!(rt; "group {} {} {} {}", g.risks, g.basic, g.excess, g.billed)
+fn print_group(rt: &impl Print, figures: GroupFigures) -> io::Result<()> {
+    println!(rt; "group {figures}")
 }
 
 // A line for each risk: its number, L, A, K and its premium, which lies in four bytes.

@@ -1,5 +1,5 @@
 // What limited losses have above a mark and lack below one, in all: SX and SS of step 3, and the numerators
-// of Table's charge and savings.
+// of Table's charge and savings. The two differ in what is taken from what, and each is one chain.
 ghost use Rattle.std.specs.Prelude.{◌≡◌, ◌*◌, ◌^◌, ◌≤◌, ◌<◌};
 ghost use Rattle.plan.specs.Sizes.{most_risks};
 ghost use Rattle.plan.specs.Arithmetic.{sum_of, above, below};

@@ -89,7 +89,7 @@ fn show_rate(rt: &impl Print, label: &str, file: &[u8], premiums: &mut [u8]) -> 
     print!(rt; "{label}")?;
     let rated = rate(file, premiums);
     show(rt, rated, |g| {
-        print!(rt; " rated {} {} {} {} ", g.risks, g.basic, g.excess, g.billed)?;
+        print!(rt; " rated {g} ")?;
         print_line(rt, premiums)
     })
 }

@@ -10,10 +10,10 @@ use Rattle.gates.proofs.open_losses.Goals as goal
 pub returns : goal.returns
 returns c =
     let s = c.args.file.now in
-    let x = c.open-verdict.ensures in
+    let x = c.open-opened.ensures in
     record {
       verdict =
-          ap verdict_is c.and-verdict.ensures
+          ap verdict_is c.and.ensures
           ∙ verdict-and _ _
           ∙ ap₂ or_else x.verdict (c.losses_verdict.ensures ∙ ap (λ (n : ℕ). first_no (ask 10 (leb 1 n) ∷ [])) x.losses.limited)
           ∙ sym (after-gate (file_questions s) (question10 (losses_in s) ∷ []) refl);

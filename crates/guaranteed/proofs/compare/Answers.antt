@@ -9,7 +9,7 @@ use Rattle.plan.specs.Questions.{Verdict, passed, failed, first_no, or_else, rat
 use Rattle.plan.specs.Calls.{answer}
 use Rattle.plan.specs.Discount.{Layer, discount}
 use Rattle.plan.specs.Comparison.{differences_of, schedule_questions}
-use Rattle.plan.proofs.Questions.{refused-failed, rating-sound}
+use Rattle.plan.proofs.Questions.{rating-sound}
 use Rattle.plan.proofs.FileSizes.{group-bounds}
 use Rattle.plan.proofs.Discounts.{discount_most}
 use Rattle.group.specs.Refusals.{number_of, verdict_is, answer_is}
@@ -20,7 +20,7 @@ use Rattle.steps.specs.Terms.{terms_is}
 use Rattle.steps.specs.declared.bill.Terms.{Terms}
 use Rattle.gates.specs.Gates.{RatingOpenedIs}
 use Rattle.groupfile.specs.declared.opening.Opened.{Opened}
-use Rattle.gates.proofs.Given.{passes, risk-count, as-many}
+use Rattle.gates.proofs.Given.{gives, refuses, passes, risk-count, as-many}
 use Rattle.discount.specs.Schedules.{layers_of, Discountable}
 use Rattle.rating.specs.Bills.{bills_of}
 use Rattle.guaranteed.specs.Comparisons.{CompareSays}
@@ -56,9 +56,7 @@ pub returns-in_err-terms-clause-says : goal.returns-in_err-terms-clause-says
 returns-in_err-terms-clause-says c =
     let a = c.args in
     let s = a.file.now in
-    let no =
-    refused-failed (first_no (rating_questions s)) (terms_of (header_of s) (losses_in s))
-    (sym c.open_rating-terms.ensures.verdict ∙ ap (answer_is terms_is) c.in_err-terms.was) in
+    let no = refuses c.open_rating-terms.ensures c.in_err-terms.was in
     let p = err_from_is_err_and c.from_residual.result c.from_residual.ensures.1 in
     rw (p.1, p.2)
     (refused_says s (layers_of a.schedule.layers) a.premiums.now a.differences.now _
@@ -66,10 +64,6 @@ returns-in_err-terms-clause-says c =
 
 -- past 12
 module _ (c : In_ok-terms) where
-  gave : answer_is terms_is (Ok c.in_ok-terms.terms)
-      ≡ answer (first_no (rating_questions c.args.file.now)) (terms_of (header_of c.args.file.now) (losses_in c.args.file.now))
-  gave = sym (ap (answer_is terms_is) c.in_ok-terms.was) ∙ c.open_rating-terms.ensures.verdict
-
   -- a No of 13, 16 or 17 is the answer
   refused : (k : Refusal)
       → last_verdict c.args.file.now (layers_of c.args.schedule.layers) c.args.premiums.now c.args.differences.now ≡ failed (number_of k)
@@ -80,14 +74,15 @@ module _ (c : In_ok-terms) where
       let s = a.file.now in
       let ls = layers_of a.schedule.layers in
       refused_says s ls a.premiums.now a.differences.now k
-      (verdict s ls a.premiums.now a.differences.now (passes s c.in_ok-terms.terms gave) e)
+      (verdict s ls a.premiums.now a.differences.now (passes s c.in_ok-terms.terms (gives c.open_rating-terms.ensures c.in_ok-terms.was)) e)
 
   -- what 13 comes to, as the code asks it, and 16 and 17 after it
   last : {v w : Verdict}
       → first_no (question13 (leb (4 * c.in_ok-terms.terms.risks) (length c.args.premiums.now) && leb c.in_ok-terms.terms.risks (length c.args.differences.now)) ∷ []) ≡ v
       → first_no (schedule_questions (layers_of c.args.schedule.layers)) ≡ w
       → last_verdict c.args.file.now (layers_of c.args.schedule.layers) c.args.premiums.now c.args.differences.now ≡ or_else v w
-  last = last_is c.args.file.now (layers_of c.args.schedule.layers) c.args.premiums.now c.args.differences.now c.in_ok-terms.terms gave
+  last = last_is c.args.file.now (layers_of c.args.schedule.layers) c.args.premiums.now c.args.differences.now c.in_ok-terms.terms
+      (gives c.open_rating-terms.ensures c.in_ok-terms.was)
 
 pub returns-in_err-room_verdict-clause-says : goal.returns-in_err-room_verdict-clause-says
 returns-in_err-room_verdict-clause-says c =
@@ -108,20 +103,16 @@ returns-in_err-schedule_verdict-clause-says c =
 
 -- past 13, 16 and 17
 module _ (c : In_ok-schedule_verdict) where
-  given-terms : answer_is terms_is (Ok c.in_ok-terms.terms)
-      ≡ answer (first_no (rating_questions c.args.file.now)) (terms_of (header_of c.args.file.now) (losses_in c.args.file.now))
-  given-terms = sym (ap (answer_is terms_is) c.in_ok-terms.was) ∙ c.open_rating-terms.ensures.verdict
-
   all-passed : last_verdict c.args.file.now (layers_of c.args.schedule.layers) c.args.premiums.now c.args.differences.now ≡ passed
   all-passed =
-      last_is c.args.file.now (layers_of c.args.schedule.layers) c.args.premiums.now c.args.differences.now c.in_ok-terms.terms given-terms
-      (sym c.room_verdict.ensures ∙ ap verdict_is c.in_ok-room_verdict.was)
+      last_is c.args.file.now (layers_of c.args.schedule.layers) c.args.premiums.now c.args.differences.now c.in_ok-terms.terms
+      (gives c.open_rating-terms.ensures c.in_ok-terms.was) (sym c.room_verdict.ensures ∙ ap verdict_is c.in_ok-room_verdict.was)
       (sym c.schedule_verdict.ensures ∙ ap verdict_is c.in_ok-schedule_verdict.was)
 
   to-discount : Discountable (layers_of c.args.schedule.layers) c.open_rating-terms.result.header.standard_premium
   to-discount =
-      discountable c.args.file.now (layers_of c.args.schedule.layers) c.args.premiums.now c.args.differences.now c.in_ok-terms.terms given-terms
-      c.open_rating-terms.ensures all-passed
+      discountable c.args.file.now (layers_of c.args.schedule.layers) c.args.premiums.now c.args.differences.now c.in_ok-terms.terms
+      (gives c.open_rating-terms.ensures c.in_ok-terms.was) c.open_rating-terms.ensures all-passed
 
   -- and both buffers have room for the losses that are lent
   enough : {xs : List group.Losses} → xs ≡ c.open_rating-terms.result.losses.of_risks.items
@@ -131,9 +122,10 @@ module _ (c : In_ok-schedule_verdict) where
       let ls = layers_of c.args.schedule.layers in
       let t = c.in_ok-terms.terms in
       let x = c.open_rating-terms.ensures.losses in
-      let many = as-many s t given-terms x lent in (
-        omega (arith, many, room s ls t given-terms x c.args.premiums.now c.args.differences.now all-passed),
-        omega (arith, many, room-too s ls t given-terms x c.args.premiums.now c.args.differences.now all-passed),
+      let gave = gives c.open_rating-terms.ensures c.in_ok-terms.was in
+      let many = as-many s t gave x lent in (
+        omega (arith, many, room s ls t gave x c.args.premiums.now c.args.differences.now all-passed),
+        omega (arith, many, room-too s ls t gave x c.args.premiums.now c.args.differences.now all-passed),
       )
 
 pub discount_of-discount-requires : goal.discount_of-discount-requires
@@ -175,7 +167,8 @@ pub returns-clause-says : goal.returns-clause-says
 returns-clause-says c =
     let p = (goal.at.returns-clause-says c).In_ok-schedule_verdict in
     let q = (goal.at.returns-clause-says c).After-put_differences-difference in
-    given-says c.args.file.now (layers_of c.args.schedule.layers) c.in_ok-terms.terms (given-terms p) c.open_rating-terms.ensures.losses
+    given-says c.args.file.now (layers_of c.args.schedule.layers) c.in_ok-terms.terms
+    (gives c.open_rating-terms.ensures c.in_ok-terms.was) c.open_rating-terms.ensures.losses
     c.args.premiums.now c.args.differences.now (all-passed p) c.lent-lent.ensures _ _ _
     c.bill_group-rated.ensures.figures (discounted q) (less q) (summed q) c.bill_group-rated.ensures.put c.put_differences-difference.ensures.put
 
@@ -183,6 +176,7 @@ pub returns-clause-beside : goal.returns-clause-beside
 returns-clause-beside c =
     let p = (goal.at.returns-clause-beside c).In_ok-schedule_verdict in
     let q = (goal.at.returns-clause-beside c).After-put_differences-difference in
-    beside-given c.args.file.now (layers_of c.args.schedule.layers) c.in_ok-terms.terms (given-terms p) c.open_rating-terms.ensures.losses
+    beside-given c.args.file.now (layers_of c.args.schedule.layers) c.in_ok-terms.terms
+    (gives c.open_rating-terms.ensures c.in_ok-terms.was) c.open_rating-terms.ensures.losses
     c.args.premiums.now c.args.differences.now (all-passed p) c.lent-lent.ensures _ _ _
     c.bill_group-rated.ensures.figures (discounted q) (less q) (summed q) c.bill_group-rated.ensures.put c.put_differences-difference.ensures.put

@@ -6,7 +6,6 @@ use Rattle.plan.specs.Ratable.{clamp, ratable}
 use Rattle.plan.specs.Premium.{terms_of}
 use Rattle.plan.specs.Questions.{Verdict, first_no, rating_questions}
 use Rattle.plan.specs.Calls.{answer}
-use Rattle.plan.proofs.Questions.{refused-failed}
 use Rattle.group.specs.Refusals.{answer_is}
 use Rattle.group.specs.Values.{losses_of, LossesAre}
 use Rattle.group.specs.declared.Losses as group
@@ -14,7 +13,7 @@ use Rattle.group.specs.declared.GroupLosses.{GroupLosses}
 use Rattle.steps.specs.Terms.{terms_is}
 use Rattle.steps.specs.declared.bill.Terms.{Terms}
 use Rattle.rating.specs.Details.{ratables_after}
-use Rattle.gates.proofs.Given.{passes, terms-are}
+use Rattle.gates.proofs.Given.{gives, refuses, passes, terms-are}
 use Rattle.rating.proofs.details.details_of.Goals as goal
 use Rattle.rating.proofs.details.details_of.Goals.{in-Ok, in-Err}
 
@@ -42,16 +41,15 @@ returns c =
           elim c.match-terms.branch [
             | in-Ok w ↦
                 let t = w.in-Ok.terms in
-                let gave = sym (ap (answer_is terms_is) w.in-Ok.is) ∙ x.verdict in
+                let gave = gives x w.in-Ok.is in
                 ap (λ y. y.items) w.ratables-is
                 ∙ w.ratables_of-ratables.ensures
                 ∙ ap (map (λ (y : group.Losses). clamp t.minimum t.maximum y.limited)) w.lent.ensures
                 ∙ ratables-are s t gave x.losses
                 ∙ sym (ap (λ (v : Verdict). ratables_after v s) (passes s t gave))
             | in-Err w ↦
-                let failed =
-                refused-failed (first_no (rating_questions s)) (terms_of (header_of s) (losses_in s))
-                (sym x.verdict ∙ ap (answer_is terms_is) w.in-Err.is) in
-                ap (λ y. y.items) w.ratables-is ∙ w.new-ratables.ensures ∙ sym (ap (λ (v : Verdict). ratables_after v s) failed)
+                ap (λ y. y.items) w.ratables-is
+                ∙ w.new-ratables.ensures
+                ∙ sym (ap (λ (v : Verdict). ratables_after v s) (refuses x w.in-Err.is))
           ];
     }

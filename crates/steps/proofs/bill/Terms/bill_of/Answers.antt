@@ -9,6 +9,7 @@ use Rattle.steps.specs.Terms.{terms_is}
 use Rattle.steps.specs.declared.bill.Terms.{Terms}
 use Rattle.steps.proofs.Bounds.{within}
 use Rattle.steps.proofs.bill.Terms.bill_of.Goals as goal
+use Rattle.steps.proofs.bill.Terms.bill_of.Goals.{After-from-2}
 
 -- by the terms t, of a risk whose A is a: the numerator and the bill, of the code's T, n, c and K
 module _ (t : Terms) (a : ℕ) {tax n c k : ℕ} (tax_is : tax ≡ t.tax) (n_is : n ≡ t.risks) (c_is : c ≡ t.conversion)
@@ -30,22 +31,25 @@ module _ (t : Terms) (a : ℕ) {tax n c k : ℕ} (tax_is : tax ≡ t.tax) (n_is 
     few = omega (arith, n_is, t.few);
   }
 
+-- the code's own
+at-hand : (c : After-from-2)
+    → Billed c.args.self.now c.args.limited c.from.ensures c.from-n.ensures c.from-2.ensures (c.from-k.ensures ∙ c.ratable_of.ensures)
+at-hand c = billed c.args.self.now c.args.limited c.from.ensures c.from-n.ensures c.from-2.ensures (c.from-k.ensures ∙ c.ratable_of.ensures)
+
 pub overflow_mul-numerator-3 : goal.overflow_mul-numerator-3
 overflow_mul-numerator-3 c =
-    let b = billed c.args.self.now c.args.limited c.from.ensures c.from-n.ensures c.from-2.ensures (c.from-k.ensures ∙ c.ratable_of.ensures) in
+    let b = at-hand (goal.at.overflow_mul-numerator-3 c).After-from-2 in
     omega (arith, b.numerator_most, b.few)
 
 pub overflow_add-result : goal.overflow_add-result
 overflow_add-result c =
-    let b = billed c.args.self.now c.args.limited c.from.ensures c.from-n.ensures c.from-2.ensures (c.from-k.ensures ∙ c.ratable_of.ensures) in
+    let b = at-hand (goal.at.overflow_add-result c).After-from-2 in
     omega (arith, b.numerator_most, b.few)
 
 pub overflow_cast-result : goal.overflow_cast-result
 overflow_cast-result c =
-    let b = billed c.args.self.now c.args.limited c.from.ensures c.from-n.ensures c.from-2.ensures (c.from-k.ensures ∙ c.ratable_of.ensures) in
+    let b = at-hand (goal.at.overflow_cast-result c).After-from-2 in
     omega (arith, b.bill_is, b.bill_fits)
 
 pub returns : goal.returns
-returns c =
-    let b = billed c.args.self.now c.args.limited c.from.ensures c.from-n.ensures c.from-2.ensures (c.from-k.ensures ∙ c.ratable_of.ensures) in
-    b.bill_is
+returns c = (at-hand (goal.at.returns c).After-from-2).bill_is
