@@ -25,7 +25,7 @@ const MOST_RISK_LOSSES: u32 = 66060225;
 
 // The sums of some claims of a risk, of which the last accident may go on: L of them, L of those before the last accident, and what
 // the limit leaves of the accidents before it. `most` is what the limit leaves of the largest accident. What a claim or a pair more has
-// room for is asked of each function, since it is used up by what is added.
+// room for is asked of each function, since it is used up by what is added. A literal names each field: one with a ghost field takes no `..`.
 #[derive(Clone, Copy)]
 pub struct AccidentSums {
     pub total: u32,

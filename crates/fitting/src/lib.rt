@@ -63,7 +63,7 @@ fn claims_fit(claims: &[u32]) -> bool
 }
 
 // Whether the bits of the claims fit their width in an edition: where that is no bits, each is 0. The greatest is looked for in a
-// loop of bytes alone, which can compile to one over many at a time.
+// loop of bytes alone, which can compile to one over many at a time; of `max` in place of the fold no proof was found.
 fn joined_fit(edition: Edition, joined: &[u8]) -> bool
     ensures { result ≡ all_fit (joined_width (edition_number edition)) joined.now }
 {
