@@ -58,8 +58,8 @@ pub fn head_at(file: &ClaimFile<'_>, place: BitPlace) -> RiskHead
     }
 }
 
-// Goes over the counts of so many risks from a place on, which is the header's end, and looks at no claim but for the bit of each
-// risk's first.
+// Goes over the counts of so many risks, 255 at most (`group` says why that is no type), from a place on, which is the header's end,
+// and looks at no claim but for the bit of each risk's first.
 pub fn count_claims(file: &ClaimFile<'_>, place: BitPlace, risks: u32) -> Counted
     requires { (risks ≤ most_risks) × (place.at ≡ header_bits) }
     ensures { CountedIs file.now.bytes.now risks result }

@@ -41,7 +41,7 @@ fn header_fits(h: Header) -> bool
         & value_fits(MARK_WIDTH, h.minimum_mark)
 }
 
-// Whether the counts fit their width and add to the number of claims.
+// Whether the counts, 255 at most (`group` says why that is no type), fit their width and add to the number of claims.
 fn counts_add(counts: &[u8], claims: usize) -> bool
     requires { length counts.now ≤ most_risks }
     ensures { result ≡ (all_fit count_width counts.now && eqb (sum counts.now) claims) }

@@ -36,7 +36,7 @@ impl LossRatio {
 }
 
 impl EntryRatio {
-    // m × SA ÷ (1,000 × n).
+    // m × SA ÷ (1,000 × n), with n at most 255 (`group` says why that is no type).
     pub fn dollars(self, limited: u64, risks: u32) -> u32
         requires { (self.0 ≤ most_mark) × (0 < risks) × (risks ≤ most_risks) × (limited ≤ most_risk_losses * risks) }
         ensures { result ≡ entry_ratio_dollars (entry_ratio self) risks limited }

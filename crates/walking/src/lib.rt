@@ -22,7 +22,8 @@ pub struct Walked {
     pub losses: GroupLosses,
 }
 
-// The walk over so many risks, one after another, from a place on, which is the header's end.
+// The walk over so many risks, 255 at most (`group` says why that is no type), one after another, from a place on, which is the header's
+// end.
 pub fn walk(file: &ClaimFile<'_>, place: BitPlace, risks: u32, limit: u32) -> Walked
     requires { (risks ≤ most_risks) × (place.at ≡ header_bits) }
     ensures { WalkIs file.now.bytes.now risks limit result }

@@ -1,6 +1,7 @@
 // Bits of a word of eight bytes and of one byte, by shifts and masks: the word from a byte of a file on, some bits of it, whether
 // a value fits so many, and a byte with some bits put in. Bytes past the end of the file are 0. Here and in all crates a number is narrowed
-// by `as`: its proof shows that nothing is lost, and a `TryFrom` would have an `Err` that never comes.
+// by `as`, and one of 32 bits goes to `usize` by it, since no `From` does: its proof shows that nothing is lost, and a `TryFrom` would have an
+// `Err` that never comes.
 #![tactic(auto)]
 
 ghost use Rattle.std.specs.Prelude.{◌≡◌, ◌+◌, ◌-◌, ◌*◌, ◌/◌, ◌%◌, ◌^◌, ◌≤◌, ◌<◌, length};

@@ -17,7 +17,7 @@ use groupfile::opening::HEADER_BYTES;
 use header::header_verdict;
 use putting::{GroupValues, put_file};
 
-// The length of a file of an edition with so many risks and claims.
+// The length of a file of an edition with so many risks, 255 at most (`group` says why that is no type), and claims.
 fn file_length(edition: Edition, risks: usize, claims: usize) -> usize
     requires { (risks ≤ most_risks) × (claims ≤ most_claims * most_risks) }
     ensures { result ≡ bytes_for (header_bits + count_width * risks + claim_width (edition_number edition) * claims) }
@@ -29,7 +29,7 @@ fn file_length(edition: Edition, risks: usize, claims: usize) -> usize
 }
 
 // The file of given values, put over the first bytes of `out`; or the first question that failed, and nothing. The edition is the number
-// that C gives.
+// that C gives; claims and bits are two lists, as C gives them.
 pub fn write(
     edition: u32,
     header: Header,
