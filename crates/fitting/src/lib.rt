@@ -52,7 +52,7 @@ fn counts_add(counts: &[u8], claims: usize) -> bool
 }
 
 // Whether the dollars of the claims fit their width. All are looked at: a loop without another way out can compile to one over
-// several at a time.
+// several at a time. By `all` Write takes 341,384 instructions in place of 271,116.
 fn claims_fit(claims: &[u32]) -> bool
     ensures { result ≡ all_fit dollars_width claims.now }
 {
