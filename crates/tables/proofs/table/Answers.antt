@@ -46,35 +46,45 @@ at-hand x e h count = record {
 }
 
 -- once n and r are widened
-widened : (c : After-from) → AtHand c.args.file.now c.args.r c.from-n.result c.open_losses-verdict.result.losses.limited
-    (losses_is c.open_losses-verdict.result.losses)
-widened c = at-hand c.open_losses-verdict.ensures c.in_ok-verdict.was c.if-r-gt-MOST_RATIO.false (c.from-n.ensures ∙ c.risks.ensures)
+widened : (c : After-from) → c.args.r ≤ most_ratio → AtHand c.args.file.now c.args.r c.from-n.result
+    c.open_losses-verdict.result.losses.limited (losses_is c.open_losses-verdict.result.losses)
+widened c h = at-hand c.open_losses-verdict.ensures c.in_ok-verdict.was h (c.from-n.ensures ∙ c.risks.ensures)
 
 pub overflow_mul-mark : goal.overflow_mul-mark
-overflow_mul-mark c = omega (arith, entry-fits (widened (goal.at.overflow_mul-mark c).After-from) c.from.ensures)
+overflow_mul-mark c =
+    let p = (goal.at.overflow_mul-mark c).After-from in
+    omega (arith, entry-fits (widened p c.if-r-gt-MOST_RATIO.false) c.from.ensures)
 
 pub above_in_all-above-requires : goal.above_in_all-above-requires
-above_in_all-above-requires c = omega (arith, risks-few (widened (goal.at.above_in_all-above-requires c).After-from))
+above_in_all-above-requires c =
+    let p = (goal.at.above_in_all-above-requires c).After-from in
+    omega (arith, risks-few (widened p c.if-r-gt-MOST_RATIO.false))
 
 pub below_in_all-below-requires : goal.below_in_all-below-requires
 below_in_all-below-requires c =
-    let x = widened (goal.at.below_in_all-below-requires c).After-from in
-    (omega (arith, risks-few x), entry-fits x c.from.ensures)
+    let p = (goal.at.below_in_all-below-requires c).After-from in
+    (omega (arith, risks-few (widened p c.if-r-gt-MOST_RATIO.false)), entry-fits (widened p c.if-r-gt-MOST_RATIO.false) c.from.ensures)
 
 pub overflow_mul-half-2 : goal.overflow_mul-half-2
-overflow_mul-half-2 c = omega (arith, half-fits (widened (goal.at.overflow_mul-half-2 c).After-from))
+overflow_mul-half-2 c =
+    let p = (goal.at.overflow_mul-half-2 c).After-from in
+    omega (arith, half-fits (widened p c.if-r-gt-MOST_RATIO.false))
 
 pub overflow_mul-half-3 : goal.overflow_mul-half-3
-overflow_mul-half-3 c = omega (arith, half-fits (widened (goal.at.overflow_mul-half-3 c).After-from))
+overflow_mul-half-3 c =
+    let p = (goal.at.overflow_mul-half-3 c).After-from in
+    omega (arith, half-fits (widened p c.if-r-gt-MOST_RATIO.false))
 
 pub overflow_mul-half-4 : goal.overflow_mul-half-4
-overflow_mul-half-4 c = omega (arith, half-fits (widened (goal.at.overflow_mul-half-4 c).After-from))
+overflow_mul-half-4 c =
+    let p = (goal.at.overflow_mul-half-4 c).After-from in
+    omega (arith, half-fits (widened p c.if-r-gt-MOST_RATIO.false))
 
 -- and once both sums are made
-module _ (c : After-below_in_all-below) where
+module _ (c : After-below_in_all-below) (h : c.args.r ≤ most_ratio) where
   known : AtHand c.args.file.now c.args.r c.from-n.result c.open_losses-verdict.result.losses.limited
       (losses_is c.open_losses-verdict.result.losses)
-  known = at-hand c.open_losses-verdict.ensures c.in_ok-verdict.was c.if-r-gt-MOST_RATIO.false (c.from-n.ensures ∙ c.risks.ensures)
+  known = at-hand c.open_losses-verdict.ensures c.in_ok-verdict.was h (c.from-n.ensures ∙ c.risks.ensures)
 
   charge-is : c.above_in_all-above.result ≡ charge_sum (losses_in c.args.file.now) c.args.r
   charge-is = charge-sum known c.from.ensures (of-slice _ c.above_in_all-above.ensures c.lent.ensures)
@@ -85,23 +95,26 @@ module _ (c : After-below_in_all-below) where
 pub thousandths_of-requires : goal.thousandths_of-requires
 thousandths_of-requires c =
     let p = (goal.at.thousandths_of-requires c).After-below_in_all-below in
-    charge-bounds (known p) (charge-is p)
+    let h = c.if-r-gt-MOST_RATIO.false in
+    charge-bounds (known p h) (charge-is p h)
 
 pub thousandths_of-requires-2 : goal.thousandths_of-requires-2
 thousandths_of-requires-2 c =
     let p = (goal.at.thousandths_of-requires-2 c).After-below_in_all-below in
-    savings-bounds (known p) (savings-is p)
+    let h = c.if-r-gt-MOST_RATIO.false in
+    savings-bounds (known p h) (savings-is p h)
 
 pub returns-clause-says : goal.returns-clause-says
 returns-clause-says c =
     let p = (goal.at.returns-clause-says c).After-below_in_all-below in
-    let v = c.thousandths_of.ensures ∙ charge_is (known p) (charge-is p) in
-    let w = c.thousandths_of-2.ensures ∙ savings_is (known p) (savings-is p) in
+    let h = c.if-r-gt-MOST_RATIO.false in
+    let v = c.thousandths_of.ensures ∙ charge_is (known p h) (charge-is p h) in
+    let w = c.thousandths_of-2.ensures ∙ savings_is (known p h) (savings-is p h) in
     (λ i. given (record { charge = v i; savings = w i }))
-    ∙ tabled c.args.file.now c.args.r (known p).passes (le-leb _ _ (known p).ratio)
+    ∙ tabled c.args.file.now c.args.r (known p h).passes (le-leb _ _ (known p h).ratio)
 
 pub returns-clause-curve : goal.returns-clause-curve
 returns-clause-curve c =
     let p = (goal.at.returns-clause-curve c).After-below_in_all-below in
-    on-curve (known p) (c.thousandths_of.ensures ∙ charge_is (known p) (charge-is p))
-    (c.thousandths_of-2.ensures ∙ savings_is (known p) (savings-is p))
+    let h = c.if-r-gt-MOST_RATIO.false in
+    on-curve (known p h) (c.thousandths_of.ensures ∙ charge_is (known p h) (charge-is p h)) (c.thousandths_of-2.ensures ∙ savings_is (known p h) (savings-is p h))
