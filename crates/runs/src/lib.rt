@@ -1,7 +1,7 @@
 // A run of claims of either edition put by pairs: each pair as five whole bytes, and in edition 2 two bits more to be held. One loop is
 // for both; whether its claims have bits is a const parameter, so that it compiles to one for each. The places in it are made of a byte's
-// number, so that each is seen to begin with a byte: whole bytes are then stored without a look at the bit. What a
-// function that puts fields asks of space is a fact of those fields, of the buffer and of the place, and of no value of its own.
+// number, so that each is seen to begin with a byte: whole bytes are then stored without a look at the bit. What a function that puts
+// fields asks of space is a fact of those fields, of the buffer and of the place, and of no value of its own.
 #![tactic(auto)]
 
 ghost use Rattle.std.specs.Prelude.{◌≡◌, ◌+◌, ◌*◌, ◌^◌, ◌<◌};
