@@ -7,7 +7,9 @@ ghost use Rattle.std.specs.Prelude.{◌≡◌, ◌+◌, ◌-◌, ◌*◌, ◌/�
 ghost use Rattle.bits.specs.Take.{Reach, Took, FrontReach, FrontTaken};
 ghost use Rattle.bits.specs.Put.{Room, WholeBytes, Put, InByte};
 
-use words::{bits_after, extract, insert, word_within};
+pub mod words;
+
+use crate::words::{bits_after, extract, insert, word_within};
 
 // A place between two bits of a file, counted from its first bit. It is handed on by value, beside the file, as the scope document has it.
 #[derive(Clone, Copy)]

@@ -10,8 +10,8 @@ use Rattle.plan.specs.Claim.{Claim, claim, joined, dollars, joined_width, dollar
 use Rattle.plan.proofs.Claims.{width_is, joined_at, dollars-at, past-claim, claims-split}
 use Rattle.bits.specs.Take.{Ahead}
 use Rattle.bits.proofs.Fronts.{front-part}
-use Rattle.claims.specs.Edition.{edition_number, LieAs}
-use Rattle.claims.specs.declared.edition.Edition.{Edition}
+use Rattle.group.specs.Edition.{edition_number, LieAs}
+use Rattle.group.specs.declared.edition.Edition.{Edition}
 use Rattle.claims.specs.Sums.{claim_in, first_low, second_low}
 
 -- the claims of a file that lie as those of an edition have their width

@@ -5,11 +5,11 @@ ghost use Rattle.plan.specs.Sizes.{largest_claim};
 ghost use Rattle.plan.specs.Claim.{joined_width, dollars_width, claim_width};
 ghost use Rattle.bits.specs.Take.{Took};
 ghost use Rattle.claims.specs.Claim.{ClaimReach, ClaimTaken, front_dollars};
-ghost use Rattle.claims.specs.Edition.{edition_number};
+ghost use Rattle.group.specs.Edition.{edition_number};
 
-use crate::edition::{ClaimFile, Edition};
+use group::edition::{ClaimFile, Edition};
 use bits::{BitPlace, Taken};
-use words::{extract, highest};
+use bits::words::{extract, highest};
 
 // Bits of a claim's dollars, and the most of a claim.
 pub const DOLLARS_WIDTH: u32 = 20;

@@ -3,7 +3,7 @@
 #![tactic(auto)]
 
 pub mod claim;
-pub mod edition;
+pub mod counts;
 pub mod run;
 pub mod span;
 pub mod sums;

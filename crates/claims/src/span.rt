@@ -2,10 +2,10 @@
 ghost use Rattle.std.specs.Prelude.{◌≡◌, ◌+◌, ◌*◌};
 ghost use Rattle.plan.specs.Claim.{claim_width};
 ghost use Rattle.claims.specs.Claim.{ClaimReach, RunReach};
-ghost use Rattle.claims.specs.Edition.{edition_number};
+ghost use Rattle.group.specs.Edition.{edition_number};
 
 use crate::claim::{MOST_CLAIM_WIDTH, claim_width};
-use crate::edition::Edition;
+use group::edition::Edition;
 use bits::BitPlace;
 
 // The place of the first claim, and as many as a risk has at most, from where one of a file can begin.

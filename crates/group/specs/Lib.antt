@@ -1,3 +1,4 @@
 -- The code's values as document 01's.
 pub mod Refusals
 pub mod Values
+pub mod Edition

@@ -6,6 +6,8 @@ ghost use Rattle.std.specs.Prelude.{◌≡◌, ◌≤◌, length};
 ghost use Rattle.plan.specs.Sizes.{most_risks};
 ghost use Rattle.group.specs.Refusals.{number_of};
 
+pub mod edition;
+
 use arrayvec::ArrayVec;
 use std::error::Error;
 use std::fmt;

@@ -2,4 +2,5 @@
 // after 9. What the losses come to in premiums is not known here.
 #![tactic(auto)]
 
+pub mod header;
 pub mod opening;

@@ -5,15 +5,15 @@ ghost use Rattle.plan.specs.Accidents.{all_open};
 ghost use Rattle.plan.specs.File.{risks_of, end_of};
 ghost use Rattle.plan.specs.Questions.{first_no, end_questions, file_questions};
 ghost use Rattle.group.specs.Refusals.{verdict_is};
-ghost use Rattle.header.specs.Header.{FileHeaderIs};
+ghost use Rattle.groupfile.specs.Header.{FileHeaderIs};
 ghost use Rattle.groupfile.specs.Opening.{OpenedIs, OutlineIs};
 
 use bits::BitPlace;
-use claims::edition::{ClaimFile, Edition};
-use counts::{Counted, count_claims};
+use group::edition::{ClaimFile, Edition};
+use claims::counts::{Counted, count_claims};
 use group::{GroupLosses, Header, Refusal};
-use header::{FileHeader, header_of, header_verdict};
-use walking::walk;
+use crate::header::{FileHeader, header_of, header_verdict};
+use losses::walking::walk;
 
 // Bytes of the header.
 pub const HEADER_BYTES: usize = 16;

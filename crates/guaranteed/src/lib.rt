@@ -12,11 +12,14 @@ ghost use Rattle.plan.specs.Comparison.{differences_of};
 ghost use Rattle.group.specs.Refusals.{verdict_is};
 ghost use Rattle.group.specs.Values.{losses_of};
 ghost use Rattle.rating.specs.Bills.{bills_of};
-ghost use Rattle.discount.specs.Schedules.{layers_of};
+ghost use Rattle.guaranteed.specs.Schedules.{layers_of};
 ghost use Rattle.guaranteed.specs.Comparisons.{CompareSays, BesideGiven};
 
-use discount::discounts::discount_of;
-use discount::schedule::{Schedule, schedule_verdict};
+pub mod discounts;
+pub mod schedule;
+
+use crate::discounts::discount_of;
+use crate::schedule::{Schedule, schedule_verdict};
 use gates::open_rating;
 use group::{Refusal, RiskLosses};
 use groupfile::opening::Opened;

@@ -11,13 +11,13 @@ use Rattle.plan.specs.Field.{slot}
 use Rattle.plan.specs.Claim.{Claim, slots_of_claims}
 use Rattle.plan.specs.Risk.{count_width, slots_of_risks}
 use Rattle.bits.specs.Runs.{Wrote}
-use Rattle.claims.specs.Edition.{edition_number}
-use Rattle.runs.specs.Claims.{claims_are}
-use Rattle.runs.specs.declared.GivenClaims.{GivenClaims}
+use Rattle.group.specs.Edition.{edition_number}
+use Rattle.putting.specs.Claims.{claims_are}
+use Rattle.putting.specs.declared.given.GivenClaims.{GivenClaims}
 use Rattle.putting.specs.Putting.{slots_of_risk}
 use Rattle.plan.proofs.Rests.{rest_more}
 use Rattle.bits.proofs.Runs.{Putting, putting-as, putting-run}
-use Rattle.runs.proofs.Claims.{length-are}
+use Rattle.putting.proofs.Claims.{length-are}
 
 -- at the loop's head: the risks from i on are left to be put, with the claims that are left, which are of the edition
 pub record Risks (s : List ℕ) (at edition : ℕ) (counts : List ℕ) (claims : List Claim) (t : List ℕ) (q i : ℕ) (left : GivenClaims) : Type 0 where

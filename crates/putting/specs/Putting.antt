@@ -8,9 +8,9 @@ use Rattle.plan.specs.File.{Group, file_length}
 use Rattle.plan.specs.Questions.{passed, first_no, write_questions}
 use Rattle.group.specs.Values.{header_is}
 use Rattle.group.specs.declared.Header as group
-use Rattle.claims.specs.Edition.{edition_number}
-use Rattle.runs.specs.Claims.{claims_are}
-use Rattle.runs.specs.declared.GivenClaims.{GivenClaims}
+use Rattle.group.specs.Edition.{edition_number}
+use Rattle.putting.specs.Claims.{claims_are}
+use Rattle.putting.specs.declared.given.GivenClaims.{GivenClaims}
 use Rattle.putting.specs.declared.GroupValues.{GroupValues}
 
 -- the header's first five fields, which n is not among, and the other six, which the edition is not among

@@ -8,20 +8,24 @@ ghost use Rattle.plan.specs.Arithmetic.{sum};
 ghost use Rattle.plan.specs.Risk.{slots_of_risks};
 ghost use Rattle.plan.specs.File.{file_of};
 ghost use Rattle.bits.specs.Runs.{Space, Wrote};
-ghost use Rattle.claims.specs.Edition.{edition_number};
+ghost use Rattle.group.specs.Edition.{edition_number};
 ghost use Rattle.group.specs.Values.{header_is};
-ghost use Rattle.runs.specs.Claims.{claims_are};
+ghost use Rattle.putting.specs.Claims.{claims_are};
 ghost use Rattle.putting.specs.Putting.{first_slots, last_slots, slots_of_risk, group_is, Ready};
 
+pub mod given;
+pub mod pairs;
+pub mod runs;
+
 use bits::BitPlace;
-use claims::edition::Edition;
-use counts::COUNT_WIDTH;
+use group::edition::Edition;
+use claims::counts::COUNT_WIDTH;
 use group::Header;
-use header::{
+use groupfile::header::{
     CONVERSION_WIDTH, EDITION_WIDTH, EXPENSE_WIDTH, LOSS_LIMIT_WIDTH, MARK_KIND_WIDTH, MARK_WIDTH,
     RISKS_WIDTH, SPARE_WIDTH, STANDARD_PREMIUM_WIDTH, TAX_WIDTH,
 };
-use runs::{GivenClaims, put_claims};
+use crate::runs::{GivenClaims, put_claims};
 
 // The values of a group file as a caller gives them. Claims and bits are two lists, as C gives them: that they are as many is asked later.
 #[derive(Clone, Copy)]

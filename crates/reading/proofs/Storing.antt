@@ -22,8 +22,8 @@ use Rattle.plan.proofs.Claims.{length-claims, part_in}
 use Rattle.plan.proofs.Risks.{length-claims-at, length-counts, counts-claims, counts-more, past-risks-more, past-risks-le, sum-prefix}
 use Rattle.plan.proofs.Risks.{parts_more}
 use Rattle.plan.proofs.Filled.{filled_none, filled_more, filled-run}
-use Rattle.counts.specs.Counts.{HeadIs}
-use Rattle.counts.specs.declared.RiskHead.{RiskHead}
+use Rattle.claims.specs.Counts.{HeadIs}
+use Rattle.claims.specs.declared.counts.RiskHead.{RiskHead}
 use Rattle.reading.specs.Reading.{bit, RisksRoom}
 
 -- filled with as many entries as it has, a buffer is those

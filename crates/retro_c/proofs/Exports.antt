@@ -30,11 +30,11 @@ use Rattle.guaranteed.specs.Comparisons as guaranteed
 use Rattle.guaranteed.specs.declared.Comparison as comparing
 use Rattle.retro_c.specs.Exported.{WriteExported, CompareExported, ChargeExported, PlanExported}
 use Rattle.plan.specs.Charge.{Charged, charge1965, OnTableAfter}
-use Rattle.charges.specs.Charges.{charged_is, OnTableGiven}
-use Rattle.charges.specs.declared.TableCharge as charging
+use Rattle.table1965.specs.Charges.{charged_is, OnTableGiven}
+use Rattle.table1965.specs.declared.charges.TableCharge as charging
 use Rattle.plan.specs.SoldOnPremiums.{Plan, plan_for, SoldAfter}
-use Rattle.premium_plans.specs.PremiumPlans.{plan_is, short_is, SoldBy}
-use Rattle.premium_plans.specs.declared.PlanFound as planning
+use Rattle.sold.specs.PremiumPlans.{plan_is, short_is, SoldBy}
+use Rattle.sold.specs.declared.plans.PlanFound as planning
 
 -- a lent number after a refusal, and after what was given, of which the number is a part
 kept : {A B : Type 0} (number : A → B) (old : B) {a : Answer A} {k : ℕ} → a ≡ refused k → old ≡ number_after number a old

@@ -11,11 +11,11 @@ ghost use Rattle.plan.specs.Comparison as plan;
 ghost use Rattle.plan.specs.Comparison.{BesideAfter};
 ghost use Rattle.plan.specs.Charge.{charge1965, OnTableAfter};
 ghost use Rattle.plan.specs.SoldOnPremiums.{plan_for, SoldAfter};
-ghost use Rattle.discount.specs.Schedules.{layers_of};
+ghost use Rattle.guaranteed.specs.Schedules.{layers_of};
 ghost use Rattle.retro_c.specs.Exported.{numbers, RateExported, TableExported, ReadExported, WriteExported};
 ghost use Rattle.retro_c.specs.Exported.{lent, CompareExported, ChargeExported, plan_lent, PlanExported};
 
-use discount::schedule::Schedule;
+use guaranteed::schedule::Schedule;
 use group::Header;
 use guaranteed::compare;
 
@@ -188,7 +188,7 @@ pub extern "C" fn retro_charge(
         charge.old charge.new thousandths.old thousandths.new }
     ensures table { OnTableAfter (charge1965 column entry_ratio) column entry_ratio charge.new thousandths.new }
 {
-    match charges::charge(column, entry_ratio) {
+    match table1965::charges::charge(column, entry_ratio) {
         Err(refusal) => refusal.into(),
         Ok(t) => {
             *charge = t.charge;
@@ -216,7 +216,7 @@ pub extern "C" fn retro_plan(
     ensures sold { SoldAfter (plan_for file.now maximum minimum trials) file.now maximum minimum trials
         made.new best.new short_of.new }
 {
-    match premium_plans::plan(file, maximum, minimum, trials) {
+    match sold::plans::plan(file, maximum, minimum, trials) {
         Err(refusal) => refusal.into(),
         Ok(p) => {
             *made = p.made;

@@ -12,7 +12,7 @@ use crate::basic::{basic_of, excess_of};
 use crate::bill::Terms;
 use crate::spread::{above_in_all, below_in_all};
 use group::{GroupLosses, Header, Refusal};
-use marks::Mark;
+use crate::marks::Mark;
 
 // LG and LH.
 #[derive(Clone, Copy)]

@@ -5,5 +5,6 @@
 pub mod balance;
 pub mod basic;
 pub mod bill;
+pub mod marks;
 pub mod ratable;
 pub mod spread;

@@ -19,7 +19,7 @@ use Rattle.plan.specs.Questions.{write_enough, write_questions}
 use Rattle.plan.specs.Calls.{Answer, given, giving, filled, buffer_after, write}
 use Rattle.plan.proofs.Questions.{goes_on, stops, after-gate, answered}
 use Rattle.plan.proofs.Writable.{Writable, fifteen-sound}
-use Rattle.fitting.specs.Fitting.{OpenSays}
+use Rattle.writing.specs.Fitting.{OpenSays}
 use Rattle.putting.specs.Putting.{Ready}
 use Rattle.std.proofs.Common.{Ok, Err}
 use Rattle.writing.specs.Writer.{WriteSays}

@@ -1,2 +1,4 @@
+-- What is asked of given bits.
 -- Write's answer as document 01's.
+pub mod Fitting
 pub mod Writer

@@ -2,4 +2,5 @@
 // are decided before the first byte is stored.
 #![tactic(auto)]
 
+pub mod fitting;
 pub mod writer;

@@ -5,16 +5,16 @@ ghost use Rattle.plan.specs.Field.{bytes_for};
 ghost use Rattle.plan.specs.Header.{header_bits};
 ghost use Rattle.plan.specs.Claim.{claim_width};
 ghost use Rattle.plan.specs.Risk.{count_width};
-ghost use Rattle.claims.specs.Edition.{edition_number};
+ghost use Rattle.group.specs.Edition.{edition_number};
 ghost use Rattle.writing.specs.Writer.{given_group, WriteSays};
 
 use claims::claim::claim_width;
-use claims::edition::Edition;
-use counts::COUNT_WIDTH;
-use fitting::{risks_open, values_fit};
+use group::edition::Edition;
+use claims::counts::COUNT_WIDTH;
+use crate::fitting::{risks_open, values_fit};
 use group::{Header, Refusal};
 use groupfile::opening::HEADER_BYTES;
-use header::header_verdict;
+use groupfile::header::header_verdict;
 use putting::{GroupValues, put_file};
 
 // The length of a file of an edition with so many risks, 255 at most (`group` says why that is no type), and claims.

@@ -21,7 +21,7 @@ use Rattle.steps.specs.declared.bill.Terms.{Terms}
 use Rattle.gates.specs.Gates.{RatingOpenedIs}
 use Rattle.groupfile.specs.declared.opening.Opened.{Opened}
 use Rattle.gates.proofs.Given.{gives, refuses, passes, risk-count, as-many}
-use Rattle.discount.specs.Schedules.{layers_of, Discountable}
+use Rattle.guaranteed.specs.Schedules.{layers_of, Discountable}
 use Rattle.rating.specs.Bills.{bills_of}
 use Rattle.guaranteed.specs.Comparisons.{CompareSays}
 use Rattle.guaranteed.proofs.Answers.{last_verdict, verdict, refused_says, room, room-too, rates, given-says, beside-given}

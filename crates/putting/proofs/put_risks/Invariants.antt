@@ -1,6 +1,6 @@
 -- The invariant: of the risks, those from the turn's on are left to be put, with the claims that are left.
-use Rattle.claims.specs.Edition.{edition_number}
-use Rattle.runs.specs.Claims.{claims_are}
+use Rattle.group.specs.Edition.{edition_number}
+use Rattle.putting.specs.Claims.{claims_are}
 use Rattle.putting.proofs.Risks.{Risks}
 use Rattle.putting.proofs.put_risks.Given as goal
 

@@ -1,6 +1,6 @@
 -- The field is in the word from its first byte on: one fact over the width.
 use Rattle.std.proofs.Common.{refl, sym, ap, ◌∙◌, ℕ, ◌-◌, ◌/◌, ◌%◌, ◌^◌}
-use Rattle.words.proofs.Takes.{field-in-word}
+use Rattle.bits.proofs.Takes.{field-in-word}
 use Rattle.bits.proofs.BitPlace.take_within.Goals as goal
 
 pub returns : goal.returns

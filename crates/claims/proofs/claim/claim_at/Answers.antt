@@ -7,7 +7,7 @@ use Rattle.plan.specs.Field.{field}
 use Rattle.plan.specs.Header.{edition_of}
 use Rattle.plan.specs.Claim.{claim_width, dollars_width}
 use Rattle.plan.proofs.Claims.{past-claim, joined-of-both, dollars-of-both}
-use Rattle.claims.specs.Edition.{edition_number}
+use Rattle.group.specs.Edition.{edition_number}
 use Rattle.claims.proofs.Taking.{width-like}
 use Rattle.claims.proofs.claim.claim_at.Goals as goal
 

@@ -3,8 +3,8 @@
 use Rattle.std.proofs.Common.{ap, subst, subst₂, List, ℕ, arith}
 use Rattle.plan.specs.Header as plan
 use Rattle.plan.proofs.FileSizes.{risks-le}
-use Rattle.risks.proofs.RunningSums.{total-is-all, limited-is-all}
-use Rattle.walking.specs.Walks.{WalkIs}
+use Rattle.losses.proofs.RunningSums.{total-is-all, limited-is-all}
+use Rattle.losses.specs.Walks.{WalkIs}
 use Rattle.groupfile.proofs.opening.open.Goals as goal
 
 pub walk-walked-requires : goal.walk-walked-requires

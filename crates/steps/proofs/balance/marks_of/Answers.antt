@@ -2,8 +2,8 @@
 use Rattle.std.proofs.Common.{◌≡◌, ◌∙◌, ℕ, length}
 use Rattle.plan.specs.Losses.{SA}
 use Rattle.plan.specs.Marks.{mark_of, dollars, LG, LH}
-use Rattle.marks.specs.Measures.{mark_is}
-use Rattle.marks.specs.declared.Mark.{Mark}
+use Rattle.steps.specs.Measures.{mark_is}
+use Rattle.steps.specs.declared.marks.Mark.{Mark}
 use Rattle.group.proofs.Group.{risks}
 use Rattle.group.specs.Values.{losses_is, GroupIs}
 use Rattle.group.specs.declared.Header.{Header}

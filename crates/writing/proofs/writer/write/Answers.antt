@@ -6,9 +6,9 @@ use lib.Seq.{length-take-le}
 use Rattle.plan.specs.Questions.{known_edition}
 use Rattle.group.specs.Refusals.{verdict_is}
 use Rattle.group.specs.declared.Refusal.{Refusal}
-use Rattle.claims.specs.Edition.{edition_number, EditionIs}
-use Rattle.claims.specs.declared.edition.Edition.{Edition}
-use Rattle.claims.specs.declared.edition.Edition.TheVariants.{First, Second}
+use Rattle.group.specs.Edition.{edition_number, EditionIs}
+use Rattle.group.specs.declared.edition.Edition.{Edition}
+use Rattle.group.specs.declared.edition.Edition.TheVariants.{First, Second}
 use Rattle.plan.proofs.Writable.{risks-few, claims-few}
 use Rattle.putting.specs.Putting.{given_group}
 use Rattle.writing.proofs.Asked.{fifteen, refused-2, refused-header, refused-15, refused-19, refused-13}

@@ -1,2 +1,0 @@
--- The law of a claim more.
-mod Joining

@@ -1,2 +1,0 @@
--- What adding claims to the sums asks for and gives.
-pub mod Accidents

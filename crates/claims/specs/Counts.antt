@@ -1,0 +1,20 @@
+-- What the counts of risks give, and the bits of their first claims: of one risk, and of the first n.
+use Rattle.std.specs.Prelude.{◌≡◌, List, ℕ}
+use Rattle.plan.specs.Arithmetic.{sum}
+use Rattle.plan.specs.Header.{header_bits}
+use Rattle.plan.specs.Risk.{count_at, first_claim, claims_at, counts_from, risks_from, past_risks}
+use Rattle.plan.specs.Accidents.{opens, all_open}
+use Rattle.claims.specs.declared.counts.RiskHead.{RiskHead}
+use Rattle.claims.specs.declared.counts.Counted.{Counted}
+
+-- the claims of the risk that begins at the place `at`: how many they are, the place of the first, and whether it opens an accident
+pub record HeadIs (s : List ℕ) (at : ℕ) (r : RiskHead) : Type 0 where
+  pub count : r.claims.count ≡ count_at s at
+  pub first : r.claims.first.at ≡ first_claim at
+  pub opened : r.opened ≡ opens (claims_at s at)
+
+-- by the counts of the first n risks: where they end, how many claims they have, and whether each one's first opens an accident
+pub record CountedIs (s : List ℕ) (n : ℕ) (r : Counted) : Type 0 where
+  pub end : r.end.at ≡ past_risks s header_bits n
+  pub claims : r.claims ≡ sum (counts_from s header_bits n)
+  pub opened : r.opened ≡ all_open (risks_from s header_bits n)

@@ -1,0 +1,79 @@
+// The counts of a group file: a risk's claims, whether the first opens an accident, and both of all risks, with the
+// place where the last field ends. No claim is looked at but for the bit of each risk's first. They are taken whatever the file's
+// length, since bits past the end are 0, so it is a matter of the bytes alone.
+ghost use Rattle.std.specs.Prelude.{◌≡◌, ◌+◌, ◌≤◌};
+ghost use Rattle.plan.specs.Header.{header_bits};
+ghost use Rattle.plan.specs.Risk.{count_width};
+ghost use Rattle.plan.specs.Sizes.{most_risks, most_file_bits};
+ghost use Rattle.claims.specs.Counts.{HeadIs, CountedIs};
+
+use bits::BitPlace;
+use crate::claim::joined_width;
+use group::edition::ClaimFile;
+use crate::span::ClaimSpan;
+use bits::words::{extract, highest};
+
+// Bits of a risk's number of claims.
+pub const COUNT_WIDTH: u32 = 6;
+
+// Bits of a count and of the bit behind it, and those of a word below a count.
+const HEAD_WIDTH: u32 = 7;
+
+const BELOW_COUNT: u32 = 58;
+
+// What a risk begins with tells: where its claims are, and whether the first of them opens an accident.
+#[derive(Clone, Copy)]
+pub struct RiskHead {
+    pub claims: ClaimSpan,
+    pub opened: bool,
+}
+
+// What the counts of risks tell, and the bits of their first claims: the place where the last field ends, how many claims there are,
+// and whether each risk's first claim opens an accident.
+#[derive(Clone, Copy)]
+pub struct Counted {
+    pub end: BitPlace,
+    pub claims: u32,
+    pub opened: bool,
+}
+
+// The claims of the risk that begins at a place, and whether the first opens an accident: there is none, or its bit is 0. That bit
+// lies behind the count in the same word, and is one of no width in edition 1.
+pub fn head_at(file: &ClaimFile<'_>, place: BitPlace) -> RiskHead
+    requires { place.at + count_width ≤ most_file_bits }
+    ensures { HeadIs file.now.bytes.now place.at result }
+{
+    let reach = place.at / 8 + 8;
+    let front = place.take_front(file.bytes, HEAD_WIDTH, reach);
+    let count = highest(front.value, COUNT_WIDTH) as u32;
+    let at = place.at + COUNT_WIDTH as usize;
+    let first = BitPlace { at };
+    let width = joined_width(file.edition);
+    let bit = extract(front.value, BELOW_COUNT - width, width);
+    RiskHead {
+        claims: ClaimSpan { first, count },
+        opened: (count == 0) | (bit == 0),
+    }
+}
+
+// Goes over the counts of so many risks, 255 at most (`group` says why that is no type), from a place on, which is the header's end,
+// and looks at no claim but for the bit of each risk's first.
+pub fn count_claims(file: &ClaimFile<'_>, place: BitPlace, risks: u32) -> Counted
+    requires { (risks ≤ most_risks) × (place.at ≡ header_bits) }
+    ensures { CountedIs file.now.bytes.now risks result }
+{
+    let mut claims: u32 = 0;
+    let mut opened = true;
+    let mut next = place;
+    for _ in 0..risks {
+        let head = head_at(file, next);
+        claims += head.claims.count;
+        opened &= head.opened;
+        next = head.claims.end(file.edition);
+    }
+    Counted {
+        end: next,
+        claims,
+        opened,
+    }
+}

@@ -1,2 +1,0 @@
--- What the counts of risks give.
-pub mod Counts

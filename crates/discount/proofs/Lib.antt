@@ -1,2 +1,0 @@
--- Laws of the rows, which the functions' proofs cite.
-pub mod Rows

@@ -1,2 +1,0 @@
--- What is asked of given bits.
-pub mod Fitting

@@ -1,2 +1,0 @@
--- What taking the header gives.
-pub mod Header

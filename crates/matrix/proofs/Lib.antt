@@ -1,2 +1,0 @@
--- The rows of the table.
-mod Rows

@@ -1,2 +1,0 @@
--- What the functions of the matrix give.
-pub mod Rows

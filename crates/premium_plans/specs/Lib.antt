@@ -1,2 +1,0 @@
--- The call's answer as document 02's.
-pub mod PremiumPlans

@@ -1,3 +1,0 @@
--- The edition of a run, and the claims that are given.
-pub mod Edition
-pub mod Claims

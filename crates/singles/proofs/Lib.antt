@@ -1,2 +1,0 @@
--- The law of the loop.
-mod Summing

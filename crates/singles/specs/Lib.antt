@@ -1,2 +1,0 @@
--- What adding a claim asks for and gives.
-pub mod Singles

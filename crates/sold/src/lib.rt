@@ -1,0 +1,6 @@
+// sold
+#![tactic(auto)]
+
+pub mod owed;
+pub mod plans;
+pub mod totals;

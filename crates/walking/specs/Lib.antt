@@ -1,2 +1,0 @@
--- What the walk gives.
-pub mod Walks

@@ -1,2 +1,0 @@
-// No code: proofs/Within.antt says that the charge of the 1965 table lies within a millionth of the exact quotient.
-#![tactic(auto)]

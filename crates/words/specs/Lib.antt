@@ -1,2 +1,0 @@
--- What joining and inserting bits ask for and give.
-pub mod Words
