@@ -2,19 +2,15 @@
 // ends. How claims are put is the crate `runs`.
 ghost use Rattle.std.specs.Prelude.{◌≡◌, ◌≤◌, min};
 ghost use Rattle.plan.specs.Sizes.{largest_claim};
-ghost use Rattle.plan.specs.Claim.{joined_width, dollars_width, claim_width};
+ghost use Rattle.plan.specs.Claim.{claim_width};
 ghost use Rattle.bits.specs.Take.{Took};
 ghost use Rattle.claims.specs.Claim.{ClaimReach, ClaimTaken, front_dollars};
 ghost use Rattle.group.specs.Edition.{edition_number};
 
 use group::edition::{ClaimFile, Edition};
+use group::widths::{DOLLARS_WIDTH, MOST_CLAIM_WIDTH};
 use bits::{BitPlace, Taken};
 use bits::words::{extract, highest};
-
-// Bits of a claim's dollars, and the most of a claim.
-pub const DOLLARS_WIDTH: u32 = 20;
-
-pub const MOST_CLAIM_WIDTH: u32 = 21;
 
 // The largest claim.
 pub const LARGEST_CLAIM: u32 = 1048575;
@@ -25,24 +21,6 @@ pub struct TakenClaim {
     pub joined: u32,
     pub dollars: u32,
     pub next: BitPlace,
-}
-
-// Bits of the field before a claim's dollars: one, or none.
-pub fn joined_width(edition: Edition) -> u32
-    ensures { result ≡ joined_width (edition_number edition) }
-{
-    match edition {
-        Edition::First => 0,
-        Edition::Second => 1,
-    }
-}
-
-// Bits of a claim: both its fields.
-#[tactic(auto, unfolding(plan::specs::Claim::claim_width))]
-pub fn claim_width(edition: Edition) -> u32
-    ensures { result ≡ claim_width (edition_number edition) }
-{
-    joined_width(edition) + DOLLARS_WIDTH
 }
 
 // A claim's fields taken as one; their word ends at byte `reach` or before. Each width is a number of its own here, so that a loop over

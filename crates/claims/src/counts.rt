@@ -8,13 +8,10 @@ ghost use Rattle.plan.specs.Sizes.{most_risks, most_file_bits};
 ghost use Rattle.claims.specs.Counts.{HeadIs, CountedIs};
 
 use bits::BitPlace;
-use crate::claim::joined_width;
+use group::widths::{COUNT_WIDTH, joined_width};
 use group::edition::ClaimFile;
 use crate::span::ClaimSpan;
 use bits::words::{extract, highest};
-
-// Bits of a risk's number of claims.
-pub const COUNT_WIDTH: u32 = 6;
 
 // Bits of a count and of the bit behind it, and those of a word below a count.
 const HEAD_WIDTH: u32 = 7;

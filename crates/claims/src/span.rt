@@ -4,7 +4,7 @@ ghost use Rattle.plan.specs.Claim.{claim_width};
 ghost use Rattle.claims.specs.Claim.{ClaimReach, RunReach};
 ghost use Rattle.group.specs.Edition.{edition_number};
 
-use crate::claim::{MOST_CLAIM_WIDTH, claim_width};
+use group::widths::{MOST_CLAIM_WIDTH, claim_width};
 use group::edition::Edition;
 use bits::BitPlace;
 

@@ -2,3 +2,4 @@
 pub mod Refusals
 pub mod Values
 pub mod Edition
+pub mod Given

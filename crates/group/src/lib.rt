@@ -7,6 +7,9 @@ ghost use Rattle.plan.specs.Sizes.{most_risks};
 ghost use Rattle.group.specs.Refusals.{number_of};
 
 pub mod edition;
+pub mod given;
+pub mod questions;
+pub mod widths;
 
 use arrayvec::ArrayVec;
 use std::error::Error;

@@ -12,11 +12,10 @@ use bits::BitPlace;
 use group::edition::{ClaimFile, Edition};
 use claims::counts::{Counted, count_claims};
 use group::{GroupLosses, Header, Refusal};
-use crate::header::{FileHeader, header_of, header_verdict};
+use crate::header::{FileHeader, header_of};
+use group::questions::header_verdict;
+use group::widths::HEADER_BYTES;
 use losses::walking::walk;
-
-// Bytes of the header.
-pub const HEADER_BYTES: usize = 16;
 
 // The risks as they lie in a file, for a call that goes over their claims: the number of the edition as the file has it, which may be
 // none's, the place of the first, and the number of all claims. A file opened with its losses has them too, for a call that goes over

@@ -4,7 +4,7 @@ ghost use Rattle.std.specs.Prelude.{◌≤◌};
 ghost use Rattle.plan.specs.Sizes.{most_risk_losses};
 
 use bits::BitPlace;
-use claims::claim::DOLLARS_WIDTH;
+use group::widths::DOLLARS_WIDTH;
 use claims::run::{ClaimRun, limited_to};
 use claims::sums::Sums;
 use group::Losses;

@@ -3,7 +3,8 @@ ghost use Rattle.claims.specs.Claim.{front_dollars};
 ghost use Rattle.losses.specs.Singles.{ClaimRoom, ClaimAdded, ClaimsSummed};
 
 use bits::BitPlace;
-use claims::claim::{DOLLARS_WIDTH, LARGEST_CLAIM, dollars_ahead, limited_ahead};
+use claims::claim::{LARGEST_CLAIM, dollars_ahead, limited_ahead};
+use group::widths::DOLLARS_WIDTH;
 use claims::run::{ClaimRun, limited_to};
 use claims::sums::Sums;
 use group::Losses;

@@ -6,12 +6,9 @@ use Rattle.plan.specs.Claim.{slots_of_claims}
 use Rattle.plan.specs.Risk.{count_width}
 use Rattle.plan.specs.File.{Group, file_length}
 use Rattle.plan.specs.Questions.{passed, first_no, write_questions}
-use Rattle.group.specs.Values.{header_is}
-use Rattle.group.specs.declared.Header as group
 use Rattle.group.specs.Edition.{edition_number}
 use Rattle.putting.specs.Claims.{claims_are}
 use Rattle.putting.specs.declared.given.GivenClaims.{GivenClaims}
-use Rattle.putting.specs.declared.GroupValues.{GroupValues}
 
 -- the header's first five fields, which n is not among, and the other six, which the edition is not among
 abbrev pub first_slots : ℕ → Header → List Slot
@@ -24,20 +21,6 @@ last_slots h n = drop 5 (header_slots 0 h n)
 abbrev pub slots_of_risk : GivenClaims → List Slot
 slots_of_risk given =
     slot count_width (length given.dollars.now) ∷ slots_of_claims (edition_number given.edition) (claims_are given)
-
--- the values that a caller hands to Write
-abbrev pub given_group : ℕ → group.Header → List ℕ → List ℕ → List ℕ → Group
-given_group edition h counts claims joined = record {
-  edition = edition;
-  header = header_is h;
-  counts = counts;
-  claims = claims;
-  joined = joined;
-}
-
--- the same given as one value, whose edition is a known one
-abbrev pub group_is : GroupValues → Group
-group_is v = given_group (edition_number v.edition) v.header v.counts.now v.claims.now v.joined.now
 
 -- every question of Write is answered Yes, and the bytes are as many as the file's
 pub record Ready (g : Group) (out : List ℕ) : Type 0 where

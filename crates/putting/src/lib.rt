@@ -11,7 +11,8 @@ ghost use Rattle.bits.specs.Runs.{Space, Wrote};
 ghost use Rattle.group.specs.Edition.{edition_number};
 ghost use Rattle.group.specs.Values.{header_is};
 ghost use Rattle.putting.specs.Claims.{claims_are};
-ghost use Rattle.putting.specs.Putting.{first_slots, last_slots, slots_of_risk, group_is, Ready};
+ghost use Rattle.group.specs.Given.{group_is};
+ghost use Rattle.putting.specs.Putting.{first_slots, last_slots, slots_of_risk, Ready};
 
 pub mod given;
 pub mod pairs;
@@ -19,23 +20,14 @@ pub mod runs;
 
 use bits::BitPlace;
 use group::edition::Edition;
-use claims::counts::COUNT_WIDTH;
 use group::Header;
-use groupfile::header::{
-    CONVERSION_WIDTH, EDITION_WIDTH, EXPENSE_WIDTH, LOSS_LIMIT_WIDTH, MARK_KIND_WIDTH, MARK_WIDTH,
+use group::given::GroupValues;
+use group::widths::{
+    CONVERSION_WIDTH, COUNT_WIDTH, EDITION_WIDTH, EXPENSE_WIDTH, LOSS_LIMIT_WIDTH, MARK_KIND_WIDTH, MARK_WIDTH,
     RISKS_WIDTH, SPARE_WIDTH, STANDARD_PREMIUM_WIDTH, TAX_WIDTH,
 };
-use crate::runs::{GivenClaims, put_claims};
-
-// The values of a group file as a caller gives them. Claims and bits are two lists, as C gives them: that they are as many is asked later.
-#[derive(Clone, Copy)]
-pub struct GroupValues<'a> {
-    pub edition: Edition,
-    pub header: Header,
-    pub counts: &'a [u8],
-    pub claims: &'a [u32],
-    pub joined: &'a [u8],
-}
+use crate::given::GivenClaims;
+use crate::runs::put_claims;
 
 // Puts edition to loss conversion factor, and gives the place after them.
 fn put_first(out: &mut [u8], edition: Edition, h: Header) -> BitPlace

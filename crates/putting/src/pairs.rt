@@ -7,7 +7,7 @@ ghost use Rattle.std.specs.Prelude.{◌≡◌, ◌+◌, ◌*◌, ◌^◌, ◌≤
 ghost use Rattle.plan.specs.Sizes.{most_claim_width};
 ghost use Rattle.plan.specs.Claim.{dollars_width};
 
-use claims::claim::DOLLARS_WIDTH;
+use group::widths::DOLLARS_WIDTH;
 use bits::words::join;
 
 // Bytes of a pair of claims without bits.

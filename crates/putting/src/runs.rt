@@ -11,7 +11,7 @@ ghost use Rattle.putting.specs.Claims.{claims_are};
 
 
 use bits::BitPlace;
-use claims::claim::DOLLARS_WIDTH;
+use group::widths::DOLLARS_WIDTH;
 use group::edition::Edition;
 use crate::given::GivenClaims;
 use crate::pairs::{PAIR_BYTES, as_one, pair_after};

@@ -4,7 +4,7 @@ use Rattle.plan.specs.File.{Group}
 use Rattle.plan.specs.Calls.{giving, write, write_buffer}
 use Rattle.group.specs.Refusals.{answer_is}
 use Rattle.group.specs.declared.Refusal.{Refusal}
-pub use Rattle.putting.specs.Putting.{given_group}
+pub use Rattle.group.specs.Given.{given_group}
 
 -- a call of Write with the values g, whose output buffer held `old` and holds `new` after it: the length, or the refusal
 pub record WriteSays (g : Group) (old : List ℕ) (r : Result ℕ Refusal) (new : List ℕ) : Type 0 where

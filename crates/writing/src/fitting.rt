@@ -10,17 +10,16 @@ ghost use Rattle.plan.specs.Risk.{count_width};
 ghost use Rattle.plan.specs.Questions.{ask, header_fits, question15};
 ghost use Rattle.group.specs.Edition.{edition_number};
 ghost use Rattle.group.specs.Values.{header_is};
-ghost use Rattle.putting.specs.Putting.{group_is};
+ghost use Rattle.group.specs.Given.{group_is};
 ghost use Rattle.writing.specs.Fitting.{OpensSays, OpenSays};
 
-use claims::claim::{DOLLARS_WIDTH, joined_width};
 use group::edition::Edition;
 use group::{Header, MOST_CLAIMS, MOST_RISKS};
-use groupfile::header::{
-    CONVERSION_WIDTH, EXPENSE_WIDTH, LOSS_LIMIT_WIDTH, MARK_KIND_WIDTH, MARK_WIDTH,
-    STANDARD_PREMIUM_WIDTH, TAX_WIDTH,
+use group::widths::{
+    CONVERSION_WIDTH, DOLLARS_WIDTH, EXPENSE_WIDTH, LOSS_LIMIT_WIDTH, MARK_KIND_WIDTH, MARK_WIDTH,
+    STANDARD_PREMIUM_WIDTH, TAX_WIDTH, joined_width,
 };
-use putting::GroupValues;
+use group::given::GroupValues;
 use bits::words::value_fits;
 
 // ---- question 15

@@ -8,14 +8,13 @@ ghost use Rattle.plan.specs.Risk.{count_width};
 ghost use Rattle.group.specs.Edition.{edition_number};
 ghost use Rattle.writing.specs.Writer.{given_group, WriteSays};
 
-use claims::claim::claim_width;
 use group::edition::Edition;
-use claims::counts::COUNT_WIDTH;
+use group::widths::{COUNT_WIDTH, HEADER_BYTES, claim_width};
 use crate::fitting::{risks_open, values_fit};
 use group::{Header, Refusal};
-use groupfile::opening::HEADER_BYTES;
-use groupfile::header::header_verdict;
-use putting::{GroupValues, put_file};
+use group::questions::header_verdict;
+use group::given::GroupValues;
+use putting::put_file;
 
 // The length of a file of an edition with so many risks, 255 at most (`group` says why that is no type), and claims.
 fn file_length(edition: Edition, risks: usize, claims: usize) -> usize

@@ -5,7 +5,7 @@ use borrow.Author.Rules.{rules}
 use lib.ListN.{get_or}
 use Rattle.bits.specs.Runs.{Wrote}
 use Rattle.plan.specs.File.{file_slots}
-use Rattle.putting.specs.Putting.{group_is}
+use Rattle.group.specs.Given.{group_is}
 use Rattle.putting.proofs.Runs.{sound, small, first-space, last-space, after_last, fields-wrote}
 use Rattle.putting.proofs.Runs.{fill-starts, fill-small, fill-room, file-put}
 use Rattle.putting.proofs.put_file.Goals as goal
