@@ -7,7 +7,7 @@ use native.Mathlib.Nat.{div-one}
 use native.Mathlib.Omega.{arith}
 use lib.Pow.{shr-shr, high, low}
 use Rattle.plan.specs.Field.{field}
-use Rattle.plan.proofs.Fields.{field_lt, field-split}
+use Rattle.laws.proofs.Fields.{field_lt, field-split}
 use Rattle.bits.proofs.Words.{front-after}
 use Rattle.bits.specs.Take.{Ahead}
 

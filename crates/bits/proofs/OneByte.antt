@@ -9,7 +9,7 @@ use native.Mathlib.Omega.{arith}
 use lib.ListN.{length, get_or, set, length-set}
 use lib.Seq.{get_or-set_same, get_or-set_other}
 use Rattle.plan.specs.Field.{bit, field}
-use Rattle.plan.proofs.Fields.{by_cases, field-part, field-bits, field-byte}
+use Rattle.laws.proofs.Fields.{by_cases, field-part, field-bits, field-byte}
 use Rattle.bits.specs.Words.{Inserted}
 use Rattle.bits.specs.Put.{Put}
 

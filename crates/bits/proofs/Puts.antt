@@ -6,7 +6,7 @@ use Prim.Native.Nat.{ℕ, ◌+◌, ◌*◌, ◌^◌, ◌≤◌}
 use native.Mathlib.Decide.{dec_lt}
 use native.Mathlib.Omega.{arith}
 use Rattle.plan.specs.Field.{bit, field}
-use Rattle.plan.proofs.Fields.{by_cases, Bytes, field-none, field-split, field-same, field-bits, bits-ext}
+use Rattle.laws.proofs.Fields.{by_cases, Bytes, field-none, field-split, field-same, field-bits, bits-ext}
 use Rattle.bits.specs.Take.{Took}
 use Rattle.bits.specs.Put.{Put}
 

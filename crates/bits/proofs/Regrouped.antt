@@ -9,7 +9,7 @@ use native.Mathlib.Decide.{dec_lt}
 use native.Mathlib.Omega.{arith}
 use lib.Pow.{pow_pos, shr_lt, split, high, low}
 use Rattle.plan.specs.Field.{field, Slot, slot, total_width, Laid, Fitting}
-use Rattle.plan.proofs.Fields.{by_cases, field_lt, field-split, field-bits}
+use Rattle.laws.proofs.Fields.{by_cases, field_lt, field-split, field-bits}
 use Rattle.bits.proofs.Words.{joined-lt}
 use Rattle.bits.specs.Runs.{Space}
 use Rattle.bits.proofs.Runs.{Putting}

@@ -7,8 +7,8 @@ use native.Mathlib.Nat.{add-zero}
 use native.Mathlib.Omega.{arith}
 use lib.ListN.{length}
 use Rattle.plan.specs.Field.{Slot, slot, Laid}
-use Rattle.plan.proofs.Fields.{field-same}
-use Rattle.plan.proofs.Written.{width-append, laid-append, laid_same, fitting-first, fitting-second}
+use Rattle.laws.proofs.Fields.{field-same}
+use Rattle.laws.proofs.Written.{width-append, laid-append, laid_same, fitting-first, fitting-second}
 use Rattle.bits.specs.Put.{Room, Put}
 use Rattle.bits.specs.Runs.{Space, Wrote}
 

@@ -7,7 +7,7 @@ use native.Mathlib.Omega.{arith}
 use lib.ListN.{get_or}
 use lib.Pow.{shr-shr}
 use Rattle.plan.specs.Field.{field}
-use Rattle.plan.proofs.Fields.{Bytes, field-split, field-part, field_at, field-byte}
+use Rattle.laws.proofs.Fields.{Bytes, field-split, field-part, field_at, field-byte}
 
 -- the first k bytes of the eight from byte i on, and the next
 next-byte : (s : List ℕ) (i k : ℕ) → Bytes s → field s (8 * i) (8 * k + 8) ≡ field s (8 * i) (8 * k) * 2 ^ 8 + get_or s (i + k) 0

@@ -8,7 +8,7 @@ use borrow.Rule.Slice.PartMut.{put_mid}
 use Rattle.std.specs.Int.{byte_at, bytes_high_first, to_be_bytes}
 use Rattle.std.proofs.lemmas.List.{places}
 use Rattle.plan.specs.Field.{bit, field}
-use Rattle.plan.proofs.Fields.{Bytes, field-none, field-split, field_at, field-byte}
+use Rattle.laws.proofs.Fields.{Bytes, field-none, field-split, field_at, field-byte}
 use Rattle.bits.proofs.Words.{next-bits}
 use Rattle.bits.specs.Put.{Put}
 

@@ -11,10 +11,10 @@ use Rattle.plan.specs.Header.{edition_of, header_bits}
 use Rattle.plan.specs.Claim.{claim_width}
 use Rattle.plan.specs.Risk.{count_at, first_claim, claims_at, past_risk, counts_from, risks_from, past_risks}
 use Rattle.plan.specs.Accidents.{opens, all_open}
-use Rattle.plan.proofs.Sums.{sum-append}
-use Rattle.plan.proofs.Claims.{past-claims}
-use Rattle.plan.proofs.Risks.{counts-le, counts-more, risks-more, past-risks-le, past-risks-more}
-use Rattle.plan.proofs.Accidents.{all-open-more}
+use Rattle.laws.proofs.Sums.{sum-append}
+use Rattle.laws.proofs.Claims.{past-claims}
+use Rattle.laws.proofs.Risks.{counts-le, counts-more, risks-more, past-risks-le, past-risks-more}
+use Rattle.laws.proofs.Accidents.{all-open-more}
 use Rattle.group.specs.Edition.{edition_number, LieAs}
 use Rattle.group.specs.declared.edition.Edition.{Edition}
 use Rattle.claims.proofs.Taking.{width-like}

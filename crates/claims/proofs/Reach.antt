@@ -4,7 +4,7 @@ use mathlib.Core.List.{List}
 use Prim.Native.Nat.{ℕ, ◌+◌, ◌*◌, ◌≤◌, ◌<◌}
 use native.Mathlib.Omega.{arith}
 use Rattle.plan.specs.Claim.{past_claims}
-use Rattle.plan.proofs.Claims.{past-claims-le}
+use Rattle.laws.proofs.Claims.{past-claims-le}
 use Rattle.bits.specs.Take.{FrontReach}
 use Rattle.claims.specs.Claim.{ClaimReach}
 

@@ -7,8 +7,8 @@ use Rattle.plan.specs.Premium as plan
 use Rattle.plan.specs.Premium.{terms_of, bill_with, billed_premium, billed_premiums}
 use Rattle.plan.specs.Questions.{passed, failed, first_no, rating_questions}
 use Rattle.plan.specs.Calls.{answer}
-use Rattle.plan.proofs.Questions.{given-passed, refused-failed}
-use Rattle.plan.proofs.Losses.{length-losses}
+use Rattle.laws.proofs.Questions.{given-passed, refused-failed}
+use Rattle.laws.proofs.Losses.{length-losses}
 use Rattle.group.specs.Refusals.{number_of, answer_is}
 use Rattle.group.specs.Values.{losses_of, losses_is, LossesAre}
 use Rattle.group.specs.declared.Losses as group

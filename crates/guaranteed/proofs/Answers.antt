@@ -15,9 +15,9 @@ use Rattle.plan.specs.Calls.{Answer, given, answer, giving, filled, buffer_after
 use Rattle.plan.specs.Discount.{Layer, discount, guaranteed_cost, rates_pass}
 use Rattle.plan.specs.Comparison.{differences_of, schedule_questions, compare_enough, compare_questions, comparison_of, compare, Beside}
 use Rattle.plan.specs.Comparison as call
-use Rattle.plan.proofs.Tests.{both}
-use Rattle.plan.proofs.Questions.{after-gate, answered, or-passed, yes-to}
-use Rattle.plan.proofs.Comparisons.{numbers_with, beside}
+use Rattle.laws.proofs.Tests.{both}
+use Rattle.laws.proofs.Questions.{after-gate, answered, or-passed, yes-to}
+use Rattle.laws.proofs.Comparisons.{numbers_with, beside}
 use Rattle.group.specs.Refusals.{number_of, answer_is}
 use Rattle.group.specs.Values.{losses_of, LossesAre}
 use Rattle.group.specs.declared.Refusal.{Refusal}

@@ -12,9 +12,9 @@ use Rattle.plan.specs.Arithmetic.{sum, sum_z}
 use Rattle.plan.specs.Sizes.{most_risks}
 use Rattle.plan.specs.Calls.{filled}
 use Rattle.plan.specs.Comparison.{differences_of}
-use Rattle.plan.proofs.Differences.{Differs, of-pos, of-add, of-minus, same, mag-lt}
-use Rattle.plan.proofs.Filled.{filled_none, length-filled, filled_more}
-use Rattle.plan.proofs.Comparisons.{added}
+use Rattle.laws.proofs.Differences.{Differs, of-pos, of-add, of-minus, same, mag-lt}
+use Rattle.laws.proofs.Filled.{filled_none, length-filled, filled_more}
+use Rattle.laws.proofs.Comparisons.{added}
 use Rattle.group.specs.Values.{losses_of}
 use Rattle.group.specs.declared.Losses as group
 use Rattle.steps.specs.declared.bill.Terms.{Terms}

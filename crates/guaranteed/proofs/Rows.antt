@@ -7,7 +7,7 @@ use Rattle.std.proofs.Math.Seq.{get_or-take, drop-cons}
 use Rattle.std.proofs.lemmas.List.{length-map, drop_all}
 use Rattle.plan.specs.Discount as plan
 use Rattle.plan.specs.Discount.{discount_sum, discount, most_rate, rates_pass, widths_pass}
-use Rattle.plan.proofs.Discounts.{sum_most, discount-quotient, layer-taken}
+use Rattle.laws.proofs.Discounts.{sum_most, discount-quotient, layer-taken}
 use Rattle.guaranteed.specs.Schedules.{layer_is, layers_of, Discountable}
 use Rattle.guaranteed.specs.declared.schedule.Layer.{Layer}
 

@@ -9,9 +9,9 @@ use Rattle.std.proofs.Common.{append_assoc}
 use Rattle.plan.specs.Sizes.{largest_claim, most_claims, most_risk_losses}
 use Rattle.plan.specs.Claim.{Claim, joined, dollars}
 use Rattle.plan.specs.Losses.{limited_to, total_of, limited_of}
-use Rattle.plan.proofs.Sums.{sum-append}
-use Rattle.plan.proofs.Accidents.{last_of, last-le, More, one_more}
-use Rattle.plan.proofs.Losses.{most-limited, limited-parts, limited-total, limited-le}
+use Rattle.laws.proofs.Sums.{sum-append}
+use Rattle.laws.proofs.Accidents.{last_of, last-le, More, one_more}
+use Rattle.laws.proofs.Losses.{most-limited, limited-parts, limited-total, limited-le}
 use Rattle.losses.specs.Accidents.{claim_in, AccidentRoom, AccidentAdded, PairRoom, PairAdded, AccidentsSummed}
 use Rattle.losses.specs.declared.accidents.AccidentSums.{AccidentSums}
 

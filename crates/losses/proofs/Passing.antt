@@ -9,8 +9,8 @@ use Rattle.plan.specs.Header.{header_bits}
 use Rattle.plan.specs.Risk.{count_at, claims_at, past_risk, risks_from, past_risks}
 use Rattle.plan.specs.Accidents.{opens}
 use Rattle.plan.specs.Losses.{total_of, limited_of}
-use Rattle.plan.proofs.Risks.{count-le, past-risks-more}
-use Rattle.plan.proofs.Losses.{limited-total, SA≤SL, risk-total-le, SL-so-far, SA-so-far, SL-le}
+use Rattle.laws.proofs.Risks.{count-le, past-risks-more}
+use Rattle.laws.proofs.Losses.{limited-total, SA≤SL, risk-total-le, SL-so-far, SA-so-far, SL-le}
 use Rattle.bits.specs.declared.BitPlace.{BitPlace}
 use Rattle.claims.proofs.Counting.{Counting, counts-sum, open-sum, counting-place, counting-most}
 use Rattle.losses.specs.Risk.{RiskIs}

@@ -11,8 +11,8 @@ use Rattle.plan.specs.Sizes.{most_risks}
 use Rattle.plan.specs.Header.{header_of, risk_count}
 use Rattle.plan.specs.File.{end_of}
 use Rattle.plan.specs.Losses.{SL, SA, losses_in, losses_so_far}
-use Rattle.plan.proofs.FileSizes.{risks-le}
-use Rattle.plan.proofs.Losses.{losses-are-so-far, all-so-far}
+use Rattle.laws.proofs.FileSizes.{risks-le}
+use Rattle.laws.proofs.Losses.{losses-are-so-far, all-so-far}
 use Rattle.losses.specs.RunningSums.{SumsAre, NextRisk, RiskPassed}
 use Rattle.losses.specs.declared.risks.SumsSoFar.{SumsSoFar}
 use Rattle.losses.specs.declared.risks.PassedRisk.{PassedRisk}

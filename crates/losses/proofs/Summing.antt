@@ -9,9 +9,9 @@ use Rattle.std.proofs.Common.{append_assoc}
 use Rattle.plan.specs.Sizes.{largest_claim, most_claims}
 use Rattle.plan.specs.Claim.{Claim, joined, dollars, dollars_width}
 use Rattle.plan.specs.Losses.{limited_to, total_of}
-use Rattle.plan.proofs.Sums.{sum-append}
-use Rattle.plan.proofs.Accidents.{one_more}
-use Rattle.plan.proofs.Losses.{most-limited, limited-parts, limited-total, none-limited, limited-le}
+use Rattle.laws.proofs.Sums.{sum-append}
+use Rattle.laws.proofs.Accidents.{one_more}
+use Rattle.laws.proofs.Losses.{most-limited, limited-parts, limited-total, none-limited, limited-le}
 use Rattle.bits.proofs.Words.{front-after}
 use Rattle.claims.specs.Claim.{front_dollars}
 use Rattle.claims.specs.Sums.{claim_in}

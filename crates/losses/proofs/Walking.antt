@@ -4,7 +4,7 @@ use Rattle.std.proofs.Common.{◌≡◌, sym, ap, ◌∙◌, true, List, [], ◌
 use Rattle.std.proofs.lemmas.List.{map-append, length-map}
 use Rattle.plan.specs.Header.{header_bits}
 use Rattle.plan.specs.Losses.{losses_from}
-use Rattle.plan.proofs.Losses.{losses-so-far, length-losses-from}
+use Rattle.laws.proofs.Losses.{losses-so-far, length-losses-from}
 use Rattle.group.specs.Values.{losses_of}
 use Rattle.group.specs.declared.Losses.{Losses}
 use Rattle.losses.specs.RunningSums.{SumsAre, RiskPassed}

@@ -3,8 +3,8 @@ use Rattle.std.specs.Prelude.{◌≡◌, List, ℕ, ◌+◌, ◌-◌, ◌*◌, �
 use Rattle.plan.specs.Sizes.{largest_claim, most_risk_losses}
 use Rattle.plan.specs.Claim.{Claim, joined, dollars}
 use Rattle.plan.specs.Losses.{limited_to, total_of}
-use Rattle.plan.proofs.Accidents.{last_of}
-use Rattle.plan.proofs.Losses.{before_limited}
+use Rattle.laws.proofs.Accidents.{last_of}
+use Rattle.laws.proofs.Losses.{before_limited}
 use Rattle.claims.specs.Sums as sums
 use Rattle.claims.specs.declared.run.ClaimRun.{ClaimRun}
 use Rattle.losses.specs.declared.accidents.AccidentSums.{AccidentSums}

@@ -11,7 +11,7 @@ use lib.Dec.{lit≤}
 use lib.ListN.{length, get_or, drop, drop_of_length-le}
 use lib.Pow.{pow_mono}
 use Rattle.plan.specs.Field.{field, Slot, slot, slots}
-use Rattle.plan.proofs.Rests.{rest_more}
+use Rattle.laws.proofs.Rests.{rest_more}
 use Rattle.bits.specs.Put.{Room, WholeBytes, Put}
 use Rattle.bits.specs.Runs.{Space, Wrote}
 use Rattle.bits.proofs.Runs.{room, Putting, putting-as, putting-more, putting-ends}

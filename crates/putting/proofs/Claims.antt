@@ -1,7 +1,7 @@
 -- Claims that are given are as many as their dollars.
 use mathlib.Core.Path.{◌≡◌}
 use lib.ListN.{length}
-use Rattle.plan.proofs.Claims.{length-claims-of}
+use Rattle.laws.proofs.Claims.{length-claims-of}
 use Rattle.putting.specs.Claims.{claims_are}
 use Rattle.putting.specs.declared.given.GivenClaims.{GivenClaims}
 

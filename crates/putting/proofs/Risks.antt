@@ -15,7 +15,7 @@ use Rattle.group.specs.Edition.{edition_number}
 use Rattle.putting.specs.Claims.{claims_are}
 use Rattle.putting.specs.declared.given.GivenClaims.{GivenClaims}
 use Rattle.putting.specs.Putting.{slots_of_risk}
-use Rattle.plan.proofs.Rests.{rest_more}
+use Rattle.laws.proofs.Rests.{rest_more}
 use Rattle.bits.proofs.Runs.{Putting, putting-as, putting-run}
 use Rattle.putting.proofs.Claims.{length-are}
 

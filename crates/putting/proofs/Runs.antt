@@ -10,11 +10,11 @@ use Rattle.plan.specs.Sizes.{largest_file}
 use Rattle.plan.specs.Field.{Slot, total_width, bytes_for}
 use Rattle.plan.specs.Risk.{slots_of_risks}
 use Rattle.plan.specs.File.{Group, claims_given, file_slots, file_of}
-use Rattle.plan.proofs.Fields.{Bytes}
-use Rattle.plan.proofs.Written.{length-bytes_of}
-use Rattle.plan.proofs.FileSizes.{file-le}
-use Rattle.plan.proofs.Writable.{WriteSound, write-sound, file-fitting}
-use Rattle.plan.proofs.RoundTrip.{made-sound}
+use Rattle.laws.proofs.Fields.{Bytes}
+use Rattle.laws.proofs.Written.{length-bytes_of}
+use Rattle.laws.proofs.FileSizes.{file-le}
+use Rattle.laws.proofs.Writable.{WriteSound, write-sound, file-fitting}
+use Rattle.laws.proofs.RoundTrip.{made-sound}
 use Rattle.bits.specs.Put.{Room, Put}
 use Rattle.bits.specs.Runs.{Space, Wrote}
 use Rattle.bits.proofs.WholeBytes.{fields-put}

@@ -11,8 +11,8 @@ use Rattle.plan.specs.Premium.{terms_of, billed_premiums}
 use Rattle.plan.specs.Demand3.{Demand3}
 use Rattle.plan.specs.Questions.{Verdict, failed, first_no, or_else, rating_questions, question13, rate_enough, rate_questions}
 use Rattle.plan.specs.Calls.{Answer, given, answer, giving, filled, buffer_after, Rated, rated_of, rate, premium_bytes, rate_buffer}
-use Rattle.plan.proofs.Questions.{after-gate, answered}
-use Rattle.plan.proofs.Demand3.{demand3}
+use Rattle.laws.proofs.Questions.{after-gate, answered}
+use Rattle.laws.proofs.Demand3.{demand3}
 use Rattle.group.specs.Refusals.{number_of, answer_is}
 use Rattle.group.specs.Values.{losses_of, LossesAre}
 use Rattle.group.specs.declared.Refusal.{Refusal}

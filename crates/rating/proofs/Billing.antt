@@ -11,10 +11,10 @@ use Rattle.plan.specs.Losses.{Losses}
 use Rattle.plan.specs.Sizes.{most_risks}
 use Rattle.plan.specs.Premium.{bill_with}
 use Rattle.plan.specs.Calls.{filled}
-use Rattle.plan.proofs.Fields.{Bytes}
-use Rattle.plan.proofs.Written.{width-slots}
-use Rattle.plan.proofs.Bills.{bill-lt}
-use Rattle.plan.proofs.Demand3.{fitting-map}
+use Rattle.laws.proofs.Fields.{Bytes}
+use Rattle.laws.proofs.Written.{width-slots}
+use Rattle.laws.proofs.Bills.{bill-lt}
+use Rattle.laws.proofs.Demand3.{fitting-map}
 use Rattle.bits.specs.Put.{Put}
 use Rattle.bits.specs.Runs.{Wrote}
 use Rattle.bits.proofs.Puts.{put-none}

@@ -15,10 +15,10 @@ use Rattle.plan.specs.Risk.{counts_from, risks_from, all_claims}
 use Rattle.plan.specs.File.{Group, counts_of, group_of}
 use Rattle.plan.specs.Questions.{Verdict, passed, failed, first_no, or_else, file_questions, question13, read_enough, read_questions}
 use Rattle.plan.specs.Calls.{Answer, given, giving, filled, buffer_after, read}
-use Rattle.plan.proofs.Questions.{after-gate, answered}
-use Rattle.plan.proofs.Risks.{length-counts}
-use Rattle.plan.proofs.Tests.{and_yes, and-first-no, and-second-no}
-use Rattle.plan.proofs.FileSizes.{risks-le}
+use Rattle.laws.proofs.Questions.{after-gate, answered}
+use Rattle.laws.proofs.Risks.{length-counts}
+use Rattle.laws.proofs.Tests.{and_yes, and-first-no, and-second-no}
+use Rattle.laws.proofs.FileSizes.{risks-le}
 use Rattle.std.proofs.Common.{Ok, Err}
 use Rattle.group.specs.Refusals.{number_of, verdict_is}
 use Rattle.group.specs.Values.{header_is}

@@ -17,11 +17,11 @@ use Rattle.plan.specs.Sizes.{most_file_bits}
 use Rattle.plan.specs.Claim.{Claim, dollars, claim_at, claims_from, past_claims}
 use Rattle.plan.specs.Risk.{count_width, count_at, first_claim, claims_at, counts_from, risks_from, past_risks, all_claims}
 use Rattle.plan.specs.Calls.{filled}
-use Rattle.plan.proofs.Sums.{sum-append}
-use Rattle.plan.proofs.Claims.{length-claims, part_in}
-use Rattle.plan.proofs.Risks.{length-claims-at, length-counts, counts-claims, counts-more, past-risks-more, past-risks-le, sum-prefix}
-use Rattle.plan.proofs.Risks.{parts_more}
-use Rattle.plan.proofs.Filled.{filled_none, filled_more, filled-run}
+use Rattle.laws.proofs.Sums.{sum-append}
+use Rattle.laws.proofs.Claims.{length-claims, part_in}
+use Rattle.laws.proofs.Risks.{length-claims-at, length-counts, counts-claims, counts-more, past-risks-more, past-risks-le, sum-prefix}
+use Rattle.laws.proofs.Risks.{parts_more}
+use Rattle.laws.proofs.Filled.{filled_none, filled_more, filled-run}
 use Rattle.claims.specs.Counts.{HeadIs}
 use Rattle.claims.specs.declared.counts.RiskHead.{RiskHead}
 use Rattle.reading.specs.Reading.{bit, RisksRoom}

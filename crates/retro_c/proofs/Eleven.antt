@@ -13,7 +13,7 @@ use Rattle.plan.specs.Calls.{Answer, refused, given}
 use Rattle.plan.specs.Discount.{Layer}
 use Rattle.plan.specs.Comparison.{NumbersGiven, compare}
 use Rattle.plan.specs.SoldOnPremiums.{Plan, plan_for}
-use Rattle.plan.proofs.QuestionFewer.{eleven-free}
+use Rattle.laws.proofs.QuestionFewer.{eleven-free}
 use Rattle.reading.specs.Reading.{Buffers, read_with}
 use Rattle.retro_c.specs.declared.RetroGroup.{RetroGroup}
 use Rattle.retro_c.specs.Exported.{code_of, Numbers, RateExported, TableExported, retro_group, ReadExported, WriteExported}

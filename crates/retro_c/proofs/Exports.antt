@@ -9,7 +9,7 @@ use lib.ListN.{length}
 use Rattle.plan.specs.Calls.{Answer, refused, given, giving, number_after, Rated, rate, Demand3After, table}
 use Rattle.plan.specs.File.{Group}
 use Rattle.plan.specs.Calls.{write}
-use Rattle.plan.proofs.Answers.{Gave, giving-refused, giving-given}
+use Rattle.laws.proofs.Answers.{Gave, giving-refused, giving-given}
 use Rattle.std.proofs.Common.{Ok, Err}
 use Rattle.group.specs.Refusals.{number_of, answer_is}
 use Rattle.group.specs.Values.{header_is}

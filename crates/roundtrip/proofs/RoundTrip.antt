@@ -10,12 +10,12 @@ use Rattle.plan.specs.Arithmetic.{sum}
 use Rattle.plan.specs.File.{Group, group_of}
 use Rattle.plan.specs.Questions.{first_no, file_questions, question13, read_enough, read_questions}
 use Rattle.plan.specs.Calls.{Answer, given, giving, filled, buffer_after, read, write}
-use Rattle.plan.proofs.Answers.{Gave, giving-given}
-use Rattle.plan.proofs.Fields.{Bytes}
-use Rattle.plan.proofs.Questions.{given-passed, passed-both, file-sound}
-use Rattle.plan.proofs.Decoded.{Matching, own-matching}
-use Rattle.plan.proofs.Filled.{first-filled}
-use Rattle.plan.proofs.RoundTrip as plan-trips
+use Rattle.laws.proofs.Answers.{Gave, giving-given}
+use Rattle.laws.proofs.Fields.{Bytes}
+use Rattle.laws.proofs.Questions.{given-passed, passed-both, file-sound}
+use Rattle.laws.proofs.Decoded.{Matching, own-matching}
+use Rattle.laws.proofs.Filled.{first-filled}
+use Rattle.laws.proofs.RoundTrip as plan-trips
 use Rattle.std.proofs.Common.{Result, Ok, Err}
 use Rattle.group.specs.Refusals.{answer_is}
 use Rattle.group.specs.Values.{header_is}

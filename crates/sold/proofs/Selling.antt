@@ -19,10 +19,10 @@ use Rattle.plan.specs.Calls.{answer}
 use Rattle.plan.specs.SoldOnPremiums as sold
 use Rattle.plan.specs.SoldOnPremiums.{held_premium, plan_terms_of, premiums_at, reaches, most_basic, halvings}
 use Rattle.plan.specs.SoldOnPremiums.{question22, question23, bound_questions, plan_for}
-use Rattle.plan.proofs.Losses.{length-losses, each-limited-le}
-use Rattle.plan.proofs.Questions.{after-gate, answered, loss-sound}
-use Rattle.plan.proofs.FileSizes.{group-bounds}
-use Rattle.plan.proofs.Plans.{given-sold, refused-unsold}
+use Rattle.laws.proofs.Losses.{length-losses, each-limited-le}
+use Rattle.laws.proofs.Questions.{after-gate, answered, loss-sound}
+use Rattle.laws.proofs.FileSizes.{group-bounds}
+use Rattle.laws.proofs.Plans.{given-sold, refused-unsold}
 use Rattle.group.specs.Refusals.{number_of, answer_is}
 use Rattle.group.specs.Values.{header_is, losses_of, losses_is, LossesAre}
 use Rattle.group.specs.declared.Refusal.{Refusal}

@@ -7,8 +7,8 @@ use Rattle.plan.specs.Losses.{Losses}
 use Rattle.plan.specs.Ratable.{SX, SS}
 use Rattle.plan.specs.Basic.{basic_of, basic_premium, excess_charge}
 use Rattle.plan.specs.Premium.{terms_of}
-use Rattle.plan.proofs.Sums.{sum-ext}
-use Rattle.plan.proofs.GroupSizes.{SA-le, SX-le, SS-le}
+use Rattle.laws.proofs.Sums.{sum-ext}
+use Rattle.laws.proofs.GroupSizes.{SA-le, SX-le, SS-le}
 use Rattle.group.specs.Values.{header_is, losses_is, GroupIs}
 use Rattle.group.specs.declared.Header.{Header}
 use Rattle.group.specs.declared.GroupLosses.{GroupLosses}

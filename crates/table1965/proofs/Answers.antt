@@ -5,8 +5,8 @@ use lib.Ieee.{Float}
 use Rattle.plan.specs.Calls.{given}
 use Rattle.plan.specs.Matrix.{first_column, last_column}
 use Rattle.plan.specs.Charge.{charge_double, thousandths, charge1965, last_ratio, Within, exact_numerator, exact_denominator}
-use Rattle.plan.proofs.Tests.{both}
-use Rattle.plan.proofs.Thousandths.{at_one}
+use Rattle.laws.proofs.Tests.{both}
+use Rattle.laws.proofs.Thousandths.{at_one}
 use Rattle.table1965.proofs.Within.{within}
 use Rattle.table1965.specs.Charges.{ChargeIs, charged_is, OnTableGiven}
 use Rattle.table1965.specs.declared.charges.TableCharge.{TableCharge}

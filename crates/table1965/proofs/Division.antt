@@ -13,7 +13,7 @@ use lib.Ieee.Exact.{HasValue}
 use lib.Ieee.Fits.{down_pos, up_pos}
 use lib.Ieee.Scale.{round_same}
 use Rattle.plan.specs.Doubles.{◌/ᵈ◌, double, whole}
-use Rattle.plan.proofs.Differences.{over, under}
+use Rattle.laws.proofs.Differences.{over, under}
 use Rattle.table1965.proofs.Near.{plus, minus, Near, same}
 use Rattle.table1965.proofs.Rounding.{limit, off, round-near}
 

@@ -12,7 +12,7 @@ use lib.Dec.{lit<, lit≤}
 use lib.Ieee.{Float, of_int}
 use Rattle.plan.specs.Doubles.{◌+ᵈ◌, ◌*ᵈ◌, whole}
 use Rattle.plan.specs.Charge.{from_ten_millionths, ratio_double, last_ratio}
-use Rattle.plan.proofs.Differences.{over, under}
+use Rattle.laws.proofs.Differences.{over, under}
 use Rattle.table1965.proofs.Near.{Near, same}
 use Rattle.table1965.proofs.Rounding.{off, round-near}
 use Rattle.table1965.proofs.Product.{mul-near}

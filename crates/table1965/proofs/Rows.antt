@@ -2,7 +2,7 @@
 use Rattle.std.proofs.Common.{◌≡◌, refl, sym, ap, ◌∙◌, Bool, true, eqb, List, [], ◌∷◌, length, get_or, ℕ, zero, suc, ◌+◌, ◌-◌, ◌*◌, ◌<◌, ◌≤◌, ℤ, pos, eqb-true, zero-add, arith}
 use Rattle.std.specs.List.{flat_map, list_all}
 use Rattle.std.proofs.lemmas.List.{get_or_append_left, get_or-append_right}
-use Rattle.plan.proofs.Tests.{both}
+use Rattle.laws.proofs.Tests.{both}
 use Rattle.plan.specs.Matrix.{first_column, last_column, coefficient}
 use Rattle.table1965.specs.declared.matrix.TheConstants.{MATRIX}
 

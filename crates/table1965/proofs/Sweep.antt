@@ -10,7 +10,7 @@ use lib.Dec.{T, leb, leb→le}
 use lib.ListN.{get_or}
 use Rattle.plan.specs.Matrix.{first_column, last_column, coefficient}
 use Rattle.plan.specs.Charge.{last_ratio}
-use Rattle.plan.proofs.Columns.{passes, at, at_columns, at-column}
+use Rattle.laws.proofs.Columns.{passes, at, at_columns, at-column}
 use Rattle.table1965.proofs.Formula.{gives, takes, Fits}
 
 -- ---- the coefficients' sizes

@@ -8,7 +8,7 @@ use lib.IntN.{ℤ, pos, ◌*ℤ◌, *ℤ_comm}
 use lib.Dec.{lit<, lit≤}
 use Rattle.plan.specs.Matrix.{first_column, last_column, coefficient}
 use Rattle.plan.specs.Charge.{charge_double, exact_numerator, exact_step, exact_sum, exact_denominator, Within, last_ratio}
-use Rattle.plan.proofs.Differences.{Differs, over, under, of-pos, of-self, of-add, of-scale, same}
+use Rattle.laws.proofs.Differences.{Differs, over, under, of-pos, of-self, of-add, of-scale, same}
 use Rattle.table1965.proofs.Formula.{gives, takes, denominator-near}
 use Rattle.table1965.proofs.Charge.{charge-within}
 use Rattle.table1965.proofs.Sweep.{fits, enough}

@@ -10,10 +10,10 @@ use Rattle.plan.specs.Questions.{ask, Verdict, passed, first_no, or_else, loss_q
 use Rattle.plan.specs.Table.{charge_sum, savings_sum, charge, savings}
 use Rattle.plan.specs.Bounds.{GroupBounds}
 use Rattle.plan.specs.Calls.{answer, Tabled, table}
-use Rattle.plan.proofs.Questions.{after-gate, answered, loss-sound}
-use Rattle.plan.proofs.FileSizes.{group-bounds}
-use Rattle.plan.proofs.Curve.{savings-charge}
-use Rattle.plan.proofs.TableSizes.{losses-le, charge-le, savings-le, charge-lt, savings-lt}
+use Rattle.laws.proofs.Questions.{after-gate, answered, loss-sound}
+use Rattle.laws.proofs.FileSizes.{group-bounds}
+use Rattle.laws.proofs.Curve.{savings-charge}
+use Rattle.laws.proofs.TableSizes.{losses-le, charge-le, savings-le, charge-lt, savings-lt}
 use Rattle.tables.specs.Tables.{ThousandthsBounds}
 
 -- ---- the answer

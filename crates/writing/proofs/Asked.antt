@@ -17,8 +17,8 @@ use Rattle.plan.specs.Questions.{Question, ask, Verdict, passed, failed, first_n
 use Rattle.plan.specs.Questions.{known_edition, header_questions, question13, question15, question19}
 use Rattle.plan.specs.Questions.{write_enough, write_questions}
 use Rattle.plan.specs.Calls.{Answer, given, giving, filled, buffer_after, write}
-use Rattle.plan.proofs.Questions.{goes_on, stops, after-gate, answered}
-use Rattle.plan.proofs.Writable.{Writable, fifteen-sound}
+use Rattle.laws.proofs.Questions.{goes_on, stops, after-gate, answered}
+use Rattle.laws.proofs.Writable.{Writable, fifteen-sound}
 use Rattle.writing.specs.Fitting.{OpenSays}
 use Rattle.putting.specs.Putting.{Ready}
 use Rattle.std.proofs.Common.{Ok, Err}

@@ -8,10 +8,10 @@ use Rattle.plan.specs.Header.{header_bits, header_slots}
 use Rattle.plan.specs.Claim.{claim_width}
 use Rattle.plan.specs.Risk.{count_width, slots_of_risks}
 use Rattle.plan.specs.File.{Group, claims_given, file_slots, file_length}
-use Rattle.plan.proofs.Written.{width-append, length-bytes_of}
-use Rattle.plan.proofs.Claims.{length-claims-of}
-use Rattle.plan.proofs.Risks.{risks-width}
-use Rattle.plan.proofs.Writable.{Writable}
+use Rattle.laws.proofs.Written.{width-append, length-bytes_of}
+use Rattle.laws.proofs.Claims.{length-claims-of}
+use Rattle.laws.proofs.Risks.{risks-width}
+use Rattle.laws.proofs.Writable.{Writable}
 
 pub file-length : {g : Group} → Writable g
     → file_length g

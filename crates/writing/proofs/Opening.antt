@@ -11,8 +11,8 @@ use Rattle.plan.specs.Arithmetic.{sum}
 use Rattle.plan.specs.Claim.{Claim, claims_of}
 use Rattle.plan.specs.Risk.{divided}
 use Rattle.plan.specs.Accidents.{all_open}
-use Rattle.plan.proofs.Rests.{rest_more}
-use Rattle.plan.proofs.Claims.{take-claims-of, drop-claims-of}
+use Rattle.laws.proofs.Rests.{rest_more}
+use Rattle.laws.proofs.Claims.{take-claims-of, drop-claims-of}
 use Rattle.writing.specs.Fitting.{OpensSays}
 
 -- of the dollars of all claims, those of the claims left, whose bits are `rest`: the risks before i were found to open, and those left

@@ -2,7 +2,7 @@
 use Rattle.std.proofs.Common.{refl, sym, ap, ap₂, ◌∙◌, [], ◌∷◌, ℕ, leb}
 use Rattle.plan.specs.Losses.{losses_in}
 use Rattle.plan.specs.Questions.{ask, first_no, or_else, file_questions, question10}
-use Rattle.plan.proofs.Questions.{after-gate}
+use Rattle.laws.proofs.Questions.{after-gate}
 use Rattle.group.specs.Refusals.{verdict_is}
 use Rattle.group.proofs.Verdicts.{verdict-and}
 use Rattle.gates.proofs.open_losses.Goals as goal

@@ -9,9 +9,9 @@ use Rattle.plan.specs.Questions.{Verdict, passed, failed, first_no, or_else, rat
 use Rattle.plan.specs.Calls.{answer}
 use Rattle.plan.specs.Discount.{Layer, discount}
 use Rattle.plan.specs.Comparison.{differences_of, schedule_questions}
-use Rattle.plan.proofs.Questions.{rating-sound}
-use Rattle.plan.proofs.FileSizes.{group-bounds}
-use Rattle.plan.proofs.Discounts.{discount_most}
+use Rattle.laws.proofs.Questions.{rating-sound}
+use Rattle.laws.proofs.FileSizes.{group-bounds}
+use Rattle.laws.proofs.Discounts.{discount_most}
 use Rattle.group.specs.Refusals.{number_of, verdict_is, answer_is}
 use Rattle.group.specs.Values.{losses_of}
 use Rattle.group.specs.declared.Losses as group

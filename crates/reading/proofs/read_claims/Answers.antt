@@ -2,7 +2,7 @@
 use Rattle.std.proofs.Common.{◌≡◌, ◌<◌, refl, sym, ap, ◌∙◌, arith}
 use Rattle.plan.specs.Claim as plan
 use Rattle.plan.specs.Claim.{dollars}
-use Rattle.plan.proofs.Claims.{joined-le, past_more}
+use Rattle.laws.proofs.Claims.{joined-le, past_more}
 use Rattle.claims.proofs.Reach.{next-reach}
 use Rattle.reading.specs.Reading.{bit}
 use Rattle.reading.proofs.Storing.{copying-starts, parts-more, parts-all}

@@ -2,7 +2,7 @@
 use Rattle.std.proofs.Common.{arith, ◌≡◌, ap, ◌∙◌, ℕ, ◌+◌, ◌≤◌, length}
 use Rattle.plan.specs.Calls.{filled}
 use Rattle.plan.specs.Risk.{counts_from}
-use Rattle.plan.proofs.Risks.{count-le, counts-le, length-counts}
+use Rattle.laws.proofs.Risks.{count-le, counts-le, length-counts}
 use Rattle.reading.proofs.Storing.{filled_all, place-most, claims-within, joined-within, storing-more}
 use Rattle.reading.proofs.read_risks.Goals as goal
 

@@ -1,7 +1,7 @@
 -- The divisor is even, so adding its half before dividing is the nearest.
 use Rattle.std.proofs.Common.{sym, ap, ◌∙◌, ℕ, ◌+◌, ◌*◌, ◌/◌}
 use Rattle.plan.specs.Arithmetic.{nearest}
-use Rattle.plan.proofs.Rounding.{nearest-even}
+use Rattle.laws.proofs.Rounding.{nearest-even}
 use Rattle.tables.proofs.thousandths_of.Goals as goal
 
 pub returns : goal.returns

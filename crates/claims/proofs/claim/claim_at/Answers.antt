@@ -6,7 +6,7 @@ use native.Mathlib.Omega.{arith}
 use Rattle.plan.specs.Field.{field}
 use Rattle.plan.specs.Header.{edition_of}
 use Rattle.plan.specs.Claim.{claim_width, dollars_width}
-use Rattle.plan.proofs.Claims.{past-claim, joined-of-both, dollars-of-both}
+use Rattle.laws.proofs.Claims.{past-claim, joined-of-both, dollars-of-both}
 use Rattle.group.specs.Edition.{edition_number}
 use Rattle.claims.proofs.Taking.{width-like}
 use Rattle.claims.proofs.claim.claim_at.Goals as goal

@@ -1,6 +1,6 @@
 -- A turn counts one risk more: its head is where the ones before it end, and its claims are passed by their number.
 use Rattle.std.proofs.Common.{arith}
-use Rattle.plan.proofs.Risks.{count-le}
+use Rattle.laws.proofs.Risks.{count-le}
 use Rattle.claims.proofs.Counting.{counting-place, counting-most, counting_more}
 use Rattle.claims.proofs.counts.count_claims.Goals as goal
 

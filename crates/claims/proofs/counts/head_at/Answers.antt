@@ -4,8 +4,8 @@ use Rattle.plan.specs.Field.{field}
 use Rattle.plan.specs.Header.{edition_of}
 use Rattle.plan.specs.Claim.{joined, joined_width, claim_at}
 use Rattle.plan.specs.Risk.{count_width, count_at, first_claim}
-use Rattle.plan.proofs.Claims.{joined-width-le, joined_at}
-use Rattle.plan.proofs.Risks.{first-claim}
+use Rattle.laws.proofs.Claims.{joined-width-le, joined_at}
+use Rattle.laws.proofs.Risks.{first-claim}
 use Rattle.bits.specs.Take.{Ahead}
 use Rattle.bits.proofs.Fronts.{front-is, front-part}
 use Rattle.claims.proofs.Opening.{joined-opens}

@@ -3,7 +3,7 @@
 use Rattle.std.proofs.Common.{◌≡◌, ap, ◌∙◌, subst, ℕ, ◌+◌, ◌*◌, ◌/◌, ◌≤◌, ◌<◌, arith, List}
 use Rattle.plan.specs.Header.{edition_of}
 use Rattle.plan.specs.Claim.{Claim, joined_width, claims_from, past_claims}
-use Rattle.plan.proofs.Claims.{joined-width-le, length-claims, past-claims-by}
+use Rattle.laws.proofs.Claims.{joined-width-le, length-claims, past-claims-by}
 use Rattle.bits.specs.declared.BitPlace.{BitPlace}
 use Rattle.claims.specs.Run.{ClaimsAre}
 use Rattle.claims.specs.Sums.{LossesOf}

@@ -1,6 +1,6 @@
 -- The end is no later than that of the largest file, so that the field of the fill bits is fewer than eight bits wide.
 use Rattle.std.proofs.Common.{◌∙◌, arith}
-use Rattle.plan.proofs.FileSizes.{end-le}
+use Rattle.laws.proofs.FileSizes.{end-le}
 use Rattle.groupfile.proofs.opening.end_verdict.Goals as goal
 
 pub overflow_mul-width : goal.overflow_mul-width

@@ -2,7 +2,7 @@
 -- SA, and it is at the file's end.
 use Rattle.std.proofs.Common.{ap, subst, subst₂, List, ℕ, arith}
 use Rattle.plan.specs.Header as plan
-use Rattle.plan.proofs.FileSizes.{risks-le}
+use Rattle.laws.proofs.FileSizes.{risks-le}
 use Rattle.losses.proofs.RunningSums.{total-is-all, limited-is-all}
 use Rattle.losses.specs.Walks.{WalkIs}
 use Rattle.groupfile.proofs.opening.open.Goals as goal

@@ -1,6 +1,6 @@
 -- The counts are those of the file's own n, from the header's end on.
 use native.Mathlib.Omega.{arith}
-use Rattle.plan.proofs.FileSizes.{risks-le}
+use Rattle.laws.proofs.FileSizes.{risks-le}
 use Rattle.groupfile.proofs.opening.open_outline.Goals as goal
 
 pub count_claims-counted-requires : goal.count_claims-counted-requires

@@ -6,7 +6,7 @@ use mir.Val.{bool_byte}
 use Rattle.std.proofs.lemmas.List.{length_push}
 use Rattle.plan.specs.Field.{slot, slots}
 use Rattle.plan.specs.Claim.{joined_width, dollars_width}
-use Rattle.plan.proofs.Claims.{joined-width-le}
+use Rattle.laws.proofs.Claims.{joined-width-le}
 use Rattle.bits.proofs.Runs.{room, Putting, putting-more, putting-ends}
 use Rattle.putting.proofs.AsOne.{values, space-numbers, wrote-numbers}
 use Rattle.putting.proofs.ByPairs.{pairs_start}

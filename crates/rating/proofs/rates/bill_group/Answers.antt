@@ -1,6 +1,6 @@
 -- A turn puts the next bill, 32 bits from a byte's start on, and adds it to the sum.
 use Rattle.std.proofs.Common.{◌≡◌, ap, ◌∙◌, ℕ, ◌^◌, ◌<◌, arith, get_or}
-use Rattle.plan.proofs.Fields.{Bytes}
+use Rattle.laws.proofs.Fields.{Bytes}
 use Rattle.group.specs.Values.{losses_of}
 use Rattle.rating.specs.Bills.{bills_of}
 use Rattle.rating.proofs.Billing.{bill-at, fits, billing-starts, next-put, billing-more, bills-summed, bills-put}

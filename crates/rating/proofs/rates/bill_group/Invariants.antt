@@ -1,5 +1,5 @@
 -- The invariant: the bills so far are put and summed, and the buffer has bytes, as it had at first.
-use Rattle.plan.proofs.Fields.{Bytes}
+use Rattle.laws.proofs.Fields.{Bytes}
 use Rattle.group.specs.Values.{losses_of}
 use Rattle.rating.specs.Bills.{bills_of}
 use Rattle.rating.proofs.Billing.{Billing}

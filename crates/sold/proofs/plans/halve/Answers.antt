@@ -2,8 +2,8 @@
 -- as many are made as are given, or best and short are next to each other and no more would be.
 use Rattle.std.proofs.Common.{◌≡◌, refl, sym, ap, ◌∙◌, subst, arith, Bool, ℕ, zero, suc, ◌-◌, ◌≤◌, pos, Option, Some, None, SomeIff}
 use Rattle.plan.specs.SoldOnPremiums.{halvings}
-use Rattle.plan.proofs.Halvings.{before, plan_with, Halving, halving-starts, halving-reached}
-use Rattle.plan.proofs.Halvings.{halving-short, few, given_made, no-more-made}
+use Rattle.laws.proofs.Halvings.{before, plan_with, Halving, halving-starts, halving-reached}
+use Rattle.laws.proofs.Halvings.{halving-short, few, given_made, no-more-made}
 use Rattle.sold.specs.PremiumPlans.{reached_by, short_is}
 use Rattle.sold.proofs.plans.halve.Goals as goal
 use Rattle.sold.proofs.plans.halve.Goals.{then-reaches, else-reaches}

@@ -1,6 +1,6 @@
 -- The trials made so far are so many halvings, and no more than are given. The measure is the trials to come.
 use Rattle.std.proofs.Common.{◌-◌, ◌≤◌}
-use Rattle.plan.proofs.Halvings.{Halving}
+use Rattle.laws.proofs.Halvings.{Halving}
 use Rattle.sold.specs.PremiumPlans.{reached_by}
 use Rattle.sold.proofs.plans.halve.Given as goal
 

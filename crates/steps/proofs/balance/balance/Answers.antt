@@ -9,8 +9,8 @@ use Rattle.plan.specs.Premium.{Terms, terms_of}
 use Rattle.plan.specs.Questions.{balance_questions, first_no}
 use Rattle.plan.specs.Calls.{Answer, refused, given, answer}
 use Rattle.plan.specs.Bounds.{TermsBounds}
-use Rattle.plan.proofs.GroupSizes.{terms-bounds}
-use Rattle.plan.proofs.Questions.{goes_on, stops, answered}
+use Rattle.laws.proofs.GroupSizes.{terms-bounds}
+use Rattle.laws.proofs.Questions.{goes_on, stops, answered}
 use Rattle.group.specs.Values.{header_is, losses_is}
 use Rattle.steps.proofs.Sums.{of-slice}
 use Rattle.steps.proofs.Group.{above_is, below_is, basic-bounds, basic_are, terms-are}

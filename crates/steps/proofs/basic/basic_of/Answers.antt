@@ -6,8 +6,8 @@ use Rattle.std.proofs.Math.IntN.{ℤ, pos, negsuc}
 use Rattle.std.specs.Option.{SomeIff}
 use Rattle.std.specs.Int.Signed.{non_neg}
 use Rattle.plan.specs.Basic.{basic_of}
-use Rattle.plan.proofs.Differences.{Differs, of-pos, same}
-use Rattle.plan.proofs.Balance.{basic-differs}
+use Rattle.laws.proofs.Differences.{Differs, of-pos, same}
+use Rattle.laws.proofs.Balance.{basic-differs}
 use Rattle.steps.specs.Basic.{BasicBounds, basic_is}
 use Rattle.steps.proofs.basic.basic_of.Goals as goal
 

@@ -2,7 +2,7 @@
 use Rattle.std.proofs.Common.{◌≡◌, Bool, true, false, sym, ap, ◌∙◌, arith}
 use lib.Ieee.{Float, binary64, of_bits, le}
 use Rattle.plan.specs.Doubles.{whole, at_most}
-use Rattle.plan.proofs.Thousandths.{CutOff, from-the-top, between, below_one}
+use Rattle.laws.proofs.Thousandths.{CutOff, from-the-top, between, below_one}
 use Rattle.table1965.proofs.Literals.{one, thousand}
 use Rattle.table1965.proofs.charges.greatest.Goals as goal
 

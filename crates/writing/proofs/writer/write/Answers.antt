@@ -9,7 +9,7 @@ use Rattle.group.specs.declared.Refusal.{Refusal}
 use Rattle.group.specs.Edition.{edition_number, EditionIs}
 use Rattle.group.specs.declared.edition.Edition.{Edition}
 use Rattle.group.specs.declared.edition.Edition.TheVariants.{First, Second}
-use Rattle.plan.proofs.Writable.{risks-few, claims-few}
+use Rattle.laws.proofs.Writable.{risks-few, claims-few}
 use Rattle.group.specs.Given.{given_group}
 use Rattle.writing.proofs.Asked.{fifteen, refused-2, refused-header, refused-15, refused-19, refused-13}
 use Rattle.writing.proofs.Asked.{ready, written-all}

@@ -1,7 +1,7 @@
 -- Bits and dollars are cut at the same place, so the claims are.
 use Rattle.std.proofs.Common.{◌∙◌, sym, ap₂}
 use Rattle.plan.specs.Claim.{claims_of}
-use Rattle.plan.proofs.Claims.{take-claims-of, drop-claims-of}
+use Rattle.laws.proofs.Claims.{take-claims-of, drop-claims-of}
 use Rattle.putting.proofs.given.GivenClaims.split_at.Goals as goal
 
 pub returns-clause-front : goal.returns-clause-front

@@ -4,7 +4,7 @@ use Rattle.std.proofs.Common.{◌≡◌, refl, ◌∙◌, arith, ℕ, ◌+◌, �
 use Rattle.plan.specs.Sizes.{most_risks, premium_scale}
 use Rattle.plan.specs.Ratable.{clamp}
 use Rattle.plan.specs.Premium.{bill_with}
-use Rattle.plan.proofs.Bills.{numerator-le, bill-quotient, bill-lt}
+use Rattle.laws.proofs.Bills.{numerator-le, bill-quotient, bill-lt}
 use Rattle.steps.specs.Terms.{terms_is}
 use Rattle.steps.specs.declared.bill.Terms.{Terms}
 use Rattle.steps.proofs.Bounds.{within}

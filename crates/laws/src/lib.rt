@@ -1,0 +1,2 @@
+// The laws of `plan`'s definitions: what follows from them, with no code.
+#![tactic(auto)]

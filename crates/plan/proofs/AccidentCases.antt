@@ -1,0 +1,205 @@
+-- The cases of document 02, job 4.
+use mathlib.Core.Path.{◌≡◌, refl}
+use mathlib.Core.List.{List, [], ◌∷◌}
+use Prim.Native.Nat.{ℕ, ◌*◌}
+use lib.IntN.{pos}
+use Rattle.plan.specs.Arithmetic.{nearest}
+use Rattle.plan.specs.Field.{bit, number, field, bytes_of}
+use Rattle.plan.specs.Header.{Header}
+use Rattle.plan.specs.Claim.{claim, claim_width, claim_at, past_claim, slots_of_claim}
+use Rattle.plan.specs.Risk.{count_at, first_claim}
+use Rattle.plan.specs.File.{Group}
+use Rattle.plan.specs.Accidents.{accidents_of}
+use Rattle.plan.specs.Losses.{limited_of}
+use Rattle.plan.specs.Marks.{LG, LH}
+use Rattle.plan.specs.Ratable.{SX, SS, ratable}
+use Rattle.plan.specs.Basic.{basic_premium, excess_charge}
+use Rattle.plan.specs.Premium.{bill_rounding, bill_with}
+use Rattle.plan.specs.Demand3.{total_with, taxed_expenses_and_losses}
+use Rattle.plan.specs.Calls.{Answer, refused, given, Rated, rated_of, rate, table, read, write}
+use Rattle.plan.specs.Comparison.{compare}
+use Rattle.plan.proofs.Groups.{header, group, Written, four, four_file, rates, totals, limiteds}
+use Rattle.plan.proofs.GuaranteedCases.{stock}
+
+-- a group of edition 2, with a bit for each claim
+abbrev pub joining : Header → List ℕ → List ℕ → List ℕ → Group
+joining h counts claims bits = record { edition = 2; header = h; counts = counts; claims = claims; joined = bits }
+
+-- the group of four in edition 2, no bit set
+abbrev pub four_joining : Group
+four_joining = joining four.header four.counts four.claims (0 ∷ 0 ∷ 0 ∷ 0 ∷ 0 ∷ 0 ∷ [])
+
+abbrev pub four_joining_file : List ℕ
+four_joining_file =
+    32 ∷ 19 ∷ 136 ∷ 0 ∷ 156 ∷ 64 ∷ 1 ∷ 244 ∷ 34 ∷ 98 ∷ 144 ∷ 64 ∷ 225 ∷ 1 ∷ 144 ∷ 8 ∷ 0 ∷ 32 ∷ 5 ∷ 220 ∷ 0 ∷ 15 ∷ 160
+    ∷ 16 ∷ 13 ∷ 172 ∷ 6 ∷ 1 ∷ 56 ∷ 128 ∷ 11 ∷ 184 ∷ 0 ∷ 31 ∷ 64 ∷ []
+
+-- 'A scaffold fell on two men': two risks, the first with 3,000 and 4,000, the other without claims; P 10,000, e 2,000, c 1.100,
+-- T 1.0000, limit 5,000, loss ratio marks 0.900 and 0.200
+abbrev pub scaffold_header : Header
+scaffold_header = header 5000 10000 2000 1100 10000 0 900 200
+
+abbrev pub scaffold : List ℕ → Group
+scaffold bits = joining scaffold_header (2 ∷ 0 ∷ []) (3000 ∷ 4000 ∷ []) bits
+
+-- in one accident
+abbrev pub scaffold_file : List ℕ
+scaffold_file =
+    32 ∷ 19 ∷ 136 ∷ 0 ∷ 156 ∷ 64 ∷ 1 ∷ 244 ∷ 34 ∷ 98 ∷ 113 ∷ 0 ∷ 225 ∷ 1 ∷ 144 ∷ 4 ∷ 8 ∷ 1 ∷ 119 ∷ 16 ∷ 15 ∷ 160 ∷ 0
+    ∷ []
+
+-- in two
+abbrev pub apart_file : List ℕ
+apart_file =
+    32 ∷ 19 ∷ 136 ∷ 0 ∷ 156 ∷ 64 ∷ 1 ∷ 244 ∷ 34 ∷ 98 ∷ 113 ∷ 0 ∷ 225 ∷ 1 ∷ 144 ∷ 4 ∷ 8 ∷ 1 ∷ 119 ∷ 0 ∷ 15 ∷ 160 ∷ 0
+    ∷ []
+
+-- in edition 1, where each claim is its own accident
+abbrev pub single_file : List ℕ
+single_file =
+    16 ∷ 19 ∷ 136 ∷ 0 ∷ 156 ∷ 64 ∷ 1 ∷ 244 ∷ 34 ∷ 98 ∷ 113 ∷ 0 ∷ 225 ∷ 1 ∷ 144 ∷ 4 ∷ 8 ∷ 2 ∷ 238 ∷ 0 ∷ 62 ∷ 128 ∷ 0
+    ∷ []
+
+-- four risks: both claims in one accident, in two, in one with 1,000 after it, and (1,000, 4,000 joined), 3,000
+abbrev pub accidents : Group
+accidents =
+    joining scaffold_header (2 ∷ 2 ∷ 3 ∷ 3 ∷ []) (3000 ∷ 4000 ∷ 3000 ∷ 4000 ∷ 3000 ∷ 4000 ∷ 1000 ∷ 1000 ∷ 4000 ∷ 3000 ∷ [])
+    (0 ∷ 1 ∷ 0 ∷ 0 ∷ 0 ∷ 1 ∷ 0 ∷ 0 ∷ 1 ∷ 0 ∷ [])
+
+abbrev pub accidents_file : List ℕ
+accidents_file =
+    32 ∷ 19 ∷ 136 ∷ 0 ∷ 156 ∷ 64 ∷ 1 ∷ 244 ∷ 34 ∷ 98 ∷ 113 ∷ 0 ∷ 225 ∷ 1 ∷ 144 ∷ 8 ∷ 8 ∷ 1 ∷ 119 ∷ 16 ∷ 15 ∷ 160 ∷ 8
+    ∷ 1 ∷ 119 ∷ 0 ∷ 15 ∷ 160 ∷ 12 ∷ 1 ∷ 119 ∷ 16 ∷ 15 ∷ 160 ∷ 0 ∷ 31 ∷ 64 ∷ 96 ∷ 3 ∷ 232 ∷ 128 ∷ 125 ∷ 0 ∷ 2 ∷ 238 ∷ 0
+    ∷ []
+
+-- two risks of one claim, the second with its bit set, as if it belonged to the first risk's accident. The same with a fill bit set
+abbrev pub leading : Group
+leading = joining scaffold_header (1 ∷ 1 ∷ []) (3000 ∷ 4000 ∷ []) (0 ∷ 1 ∷ [])
+
+abbrev pub leading_file : List ℕ
+leading_file =
+    32 ∷ 19 ∷ 136 ∷ 0 ∷ 156 ∷ 64 ∷ 1 ∷ 244 ∷ 34 ∷ 98 ∷ 113 ∷ 0 ∷ 225 ∷ 1 ∷ 144 ∷ 4 ∷ 4 ∷ 1 ∷ 119 ∷ 0 ∷ 192 ∷ 62 ∷ 128
+    ∷ []
+
+abbrev pub leading_filled_file : List ℕ
+leading_filled_file =
+    32 ∷ 19 ∷ 136 ∷ 0 ∷ 156 ∷ 64 ∷ 1 ∷ 244 ∷ 34 ∷ 98 ∷ 113 ∷ 0 ∷ 225 ∷ 1 ∷ 144 ∷ 4 ∷ 4 ∷ 1 ∷ 119 ∷ 0 ∷ 192 ∷ 62 ∷ 131
+    ∷ []
+
+-- one claim of 0 with its bit set, and none
+abbrev pub leading_nothing : Group
+leading_nothing = joining scaffold_header (1 ∷ 0 ∷ []) (0 ∷ []) (1 ∷ [])
+
+abbrev pub leading_nothing_file : List ℕ
+leading_nothing_file =
+    32 ∷ 19 ∷ 136 ∷ 0 ∷ 156 ∷ 64 ∷ 1 ∷ 244 ∷ 34 ∷ 98 ∷ 113 ∷ 0 ∷ 225 ∷ 1 ∷ 144 ∷ 4 ∷ 6 ∷ 0 ∷ 0 ∷ 0 ∷ 0 ∷ []
+
+-- what is said of the group of four, of either edition
+abbrev pub four_rated : Answer Rated
+four_rated = rates 4 (pos 6700000) 3300000 33600 (4935 ∷ 7245 ∷ 8400 ∷ 13020 ∷ [])
+
+abbrev pub AccidentsCase : Type 0
+AccidentsCase =
+    -- 'A risk with 3,000 and 4,000 in one accident and limit 5,000 counts 5,000', Q shows the 2,000 cut off, and 'The total of the
+    -- premiums still includes what the accident limit cuts off': 4,000 of expenses and 7,000 of losses
+    Written (scaffold (0 ∷ 1 ∷ [])) scaffold_file
+    × (totals scaffold_file ≡ 7000 ∷ 0 ∷ [])
+    × (limiteds scaffold_file ≡ 5000 ∷ 0 ∷ [])
+    × (rate scaffold_file 8 ≡ rates 2 (pos 1100000) (1100 * 2000) 11000 (7150 ∷ 3850 ∷ []))
+    × (total_with scaffold_file (pos 1100000) 2200000 ≡ pos (10000000 * 2 * 11000))
+    × (taxed_expenses_and_losses scaffold_file ≡ 10000000 * 2 * 11000)
+    × (read scaffold_file 2 2 2 ≡ given (scaffold (0 ∷ 1 ∷ [])))
+    × (write (scaffold (0 ∷ 1 ∷ [])) 23 ≡ given scaffold_file)
+    -- the same claims in two accidents count 7,000, and so in edition 1
+    × Written (group scaffold_header (2 ∷ 0 ∷ []) (3000 ∷ 4000 ∷ [])) single_file
+    × Written (scaffold (0 ∷ 0 ∷ [])) apart_file
+    × (limiteds apart_file ≡ 7000 ∷ 0 ∷ [])
+    × (rate apart_file 8 ≡ rates 2 (pos 1100000) 0 11000 (8250 ∷ 2750 ∷ []))
+    × (rate single_file 8 ≡ rates 2 (pos 1100000) 0 11000 (8250 ∷ 2750 ∷ []))
+    × (read single_file 2 2 2 ≡ given (group scaffold_header (2 ∷ 0 ∷ []) (3000 ∷ 4000 ∷ [])))
+    -- (3,000, 4,000 joined), 1,000 has A 6,000, and (1,000, 4,000 joined), 3,000 has 8,000
+    × Written accidents accidents_file
+    × (limiteds accidents_file ≡ 5000 ∷ 7000 ∷ 6000 ∷ 8000 ∷ [])
+    × (rate accidents_file 16 ≡ rates 4 (pos 5000000) 4400000 38000 (7850 ∷ 10050 ∷ 8950 ∷ 11150 ∷ []))
+    × (accidents_of (claim 0 3000 ∷ claim 1 4000 ∷ claim 0 1000 ∷ []) ≡ 7000 ∷ 1000 ∷ [])
+    × (accidents_of (claim 0 1000 ∷ claim 1 4000 ∷ claim 0 3000 ∷ []) ≡ 5000 ∷ 3000 ∷ [])
+    -- an accident of 0 dollars exists; a claim may join with 0 dollars
+    × (accidents_of (claim 0 0 ∷ claim 0 5 ∷ claim 1 0 ∷ claim 1 2 ∷ []) ≡ 0 ∷ 7 ∷ [])
+    -- the group of four in edition 2 with no bit set rates as in edition 1
+    × Written four_joining four_joining_file
+    × (rate four_joining_file 16 ≡ four_rated)
+    × (rate four_file 16 ≡ four_rated)
+    × (read four_joining_file 4 6 6 ≡ given four_joining)
+    × (write four_joining 35 ≡ given four_joining_file)
+    -- 19 in each call; after 9 and before 10
+    × Written leading leading_file
+    × Written leading_nothing leading_nothing_file
+    × (rate leading_file 8 ≡ refused 19)
+    × (read leading_file 2 2 2 ≡ refused 19)
+    × (table leading_file 100 ≡ refused 19)
+    × (compare leading_file (stock 0) 8 2 ≡ refused 19)
+    × (rate leading_filled_file 8 ≡ refused 9)
+    × (rate leading_nothing_file 8 ≡ refused 19)
+    -- 'Write .. asks question 2 of the edition first'
+    × (write (record { edition = 3; header = header 0 0 0 0 0 0 0 0; counts = []; claims = []; joined = [] }) 0 ≡ refused 2)
+    × (write (record { edition = 0; header = header 0 0 0 0 0 0 0 0; counts = []; claims = []; joined = [] }) 0 ≡ refused 2)
+    -- 'a list not as long as the claims, an entry above 1, or a 1 given with edition 1 is a No to 15'
+    × (write (scaffold (0 ∷ [])) 23 ≡ refused 15)
+    × (write (scaffold (0 ∷ 1 ∷ 0 ∷ [])) 23 ≡ refused 15)
+    × (write (scaffold (0 ∷ 2 ∷ [])) 23 ≡ refused 15)
+    × (write (record { edition = 1; header = scaffold_header; counts = 2 ∷ 0 ∷ []; claims = 3000 ∷ 4000 ∷ []; joined = 0 ∷ 1 ∷ [] }) 23
+    ≡ refused 15)
+    -- '19 .. after 15 and before 13 in Write'
+    × (write (scaffold (1 ∷ 2 ∷ [])) 0 ≡ refused 15)
+    × (write leading 0 ≡ refused 19)
+    -- 13 asks for the room of the bits too, in edition 1 as well
+    × (read scaffold_file 2 2 1 ≡ refused 13)
+    × (read single_file 2 2 1 ≡ refused 13)
+
+pub accidents_case : AccidentsCase
+unfolding bytes_of number bit field claim_width claim_at past_claim slots_of_claim count_at first_claim limited_of LG LH SX SS ratable basic_premium excess_charge nearest bill_rounding bill_with rated_of rate total_with taxed_expenses_and_losses table read write compare
+accidents_case = (
+  refl,
+  refl,
+  refl,
+  refl,
+  refl,
+  refl,
+  refl,
+  refl,
+  refl,
+  refl,
+  refl,
+  refl,
+  refl,
+  refl,
+  refl,
+  refl,
+  refl,
+  refl,
+  refl,
+  refl,
+  refl,
+  refl,
+  refl,
+  refl,
+  refl,
+  refl,
+  refl,
+  refl,
+  refl,
+  refl,
+  refl,
+  refl,
+  refl,
+  refl,
+  refl,
+  refl,
+  refl,
+  refl,
+  refl,
+  refl,
+  refl,
+  refl,
+  refl,
+)

@@ -1,0 +1,80 @@
+-- Document 01's cases.
+use mathlib.Core.Path.{◌≡◌, refl}
+use mathlib.Core.List.{[], ◌∷◌}
+use Prim.Native.Nat.{◌*◌}
+use lib.IntN.{pos}
+use Rattle.plan.specs.Arithmetic.{nearest}
+use Rattle.plan.specs.Field.{bit, number, field, bytes_of}
+use Rattle.plan.specs.Claim.{claim_width, claim_at, past_claim, slots_of_claim}
+use Rattle.plan.specs.Risk.{count_at, first_claim}
+use Rattle.plan.specs.Losses.{limited_of}
+use Rattle.plan.specs.Marks.{LG, LH}
+use Rattle.plan.specs.Ratable.{SX, SS, ratable}
+use Rattle.plan.specs.Basic.{basic_premium, excess_charge}
+use Rattle.plan.specs.Premium.{bill_rounding, bill_with}
+use Rattle.plan.specs.Demand3.{total_with, taxed_expenses_and_losses}
+use Rattle.plan.specs.Table.{charge_sum, savings_sum, charge, savings}
+use Rattle.plan.specs.Calls.{refused, given, rated_of, rate, table, read, write}
+use Rattle.plan.proofs.Groups.{Written, four, four_file, thirds, thirds_file, halves, halves_file, tens, tens_file2000, tens_file1000, limits, limits_file, rates, tables, totals, limiteds, ratables, lg}
+
+-- the group of four, as `retro` prints it: 'group 4 6700000 3300000 33600', then risk number, L, A, K and premium
+abbrev pub FourCase : Type 0
+FourCase =
+    Written four four_file
+    × (rate four_file 16 ≡ rates 4 (pos 6700000) 3300000 33600 (4935 ∷ 7245 ∷ 8400 ∷ 13020 ∷ []))
+    × (totals four_file ≡ 0 ∷ 4000 ∷ 7000 ∷ 13000 ∷ [])
+    × (limiteds four_file ≡ 0 ∷ 4000 ∷ 5000 ∷ 12000 ∷ [])
+    × (ratables four_file ≡ 2000 ∷ 4000 ∷ 5000 ∷ 9000 ∷ [])
+    -- '1.05 × (8,000 + 24,000) = 33,600', and the total of the unrounded premiums
+    × (taxed_expenses_and_losses four_file ≡ 10000000 * 4 * 33600)
+    × (total_with four_file (pos 6700000) 3300000 ≡ pos (10000000 * 4 * 33600))
+    × (read four_file 4 6 6 ≡ given four)
+    × (write four 34 ≡ given four_file)
+    × (rate four_file 15 ≡ refused 13)
+
+pub four_case : FourCase
+unfolding bytes_of number bit field claim_width claim_at past_claim slots_of_claim count_at first_claim limited_of LG LH SX SS ratable basic_premium excess_charge nearest bill_rounding bill_with rated_of rate total_with taxed_expenses_and_losses read write
+four_case = (refl, refl, refl, refl, refl, refl, refl, refl, refl, refl)
+
+-- 'Table on it: r 0 gives 1000 and 0; r 100 gives 321 and 321; r 200 gives 71 and 1071; r 300 gives 0 and 2000.' And r 25, where
+-- 812.5 and 62.5 thousandths are exact halves
+abbrev pub TableCase : Type 0
+TableCase =
+    (table four_file 0 ≡ tables 1000 0)
+    × (table four_file 100 ≡ tables 321 321)
+    × (table four_file 200 ≡ tables 71 1071)
+    × (table four_file 300 ≡ tables 0 2000)
+    × (table four_file 25 ≡ tables 813 63)
+
+pub table_case : TableCase
+unfolding number bit field claim_width claim_at past_claim count_at first_claim limited_of nearest charge_sum savings_sum charge savings table
+table_case = (refl, refl, refl, refl, refl)
+
+-- the other groups
+abbrev pub OtherCases : Type 0
+OtherCases =
+    -- 'LG is 0, M is 1,000, billed 0, 0, 0'
+    Written thirds thirds_file
+    × (lg thirds_file ≡ 0)
+    × (rate thirds_file 12 ≡ rates 3 (pos 1000) 0 0 (0 ∷ 0 ∷ 0 ∷ []))
+    × (total_with thirds_file (pos 1000) 0 ≡ pos (10000000 * 3 * 1))
+    × (taxed_expenses_and_losses thirds_file ≡ 10000000 * 3 * 1)
+    -- 'billed 1 and 1, the exact total 1'
+    × Written halves halves_file
+    × (rate halves_file 8 ≡ rates 2 (pos 1000) 0 2 (1 ∷ 1 ∷ []))
+    × (total_with halves_file (pos 1000) 0 ≡ pos (10000000 * 2 * 1))
+    × (taxed_expenses_and_losses halves_file ≡ 10000000 * 2 * 1)
+    -- 'with c 2.000 refused 12; with c 1.000 M is 0, billed 10 and 10'
+    × Written (tens 2000) tens_file2000
+    × (rate tens_file2000 8 ≡ refused 12)
+    × Written (tens 1000) tens_file1000
+    × (rate tens_file1000 8 ≡ rates 2 (pos 0) 0 20 (10 ∷ 10 ∷ []))
+    -- 'both count 5,000'
+    × Written limits limits_file
+    × (limiteds limits_file ≡ 5000 ∷ 5000 ∷ [])
+    × (lg limits_file ≡ 30000)
+
+pub other_cases : OtherCases
+unfolding bytes_of number bit field claim_width claim_at past_claim slots_of_claim count_at first_claim limited_of LG LH SX SS ratable basic_premium excess_charge nearest bill_rounding bill_with rated_of rate total_with taxed_expenses_and_losses
+other_cases =
+    (refl, refl, refl, refl, refl, refl, refl, refl, refl, refl, refl, refl, refl, refl, refl, refl)

@@ -1,0 +1,86 @@
+-- Document 02, job 5, on columns .36, .44 and .52 at r 0, 0.50, 1.00, 2.00 and 5.00: the double by its bits, and its thousandths
+use mathlib.Core.Path.{◌≡◌, refl, ap, ◌∙◌}
+use Prim.Native.Nat.{ℕ, ◌*◌, ◌-◌, max}
+use lib.IntN.{pos}
+use Rattle.plan.specs.Calls.{Answer, refused, given}
+use lib.Ieee.{binary64, of_bits, of_int, add, mul, div}
+use Rattle.plan.specs.Questions.{passed, first_no}
+use Rattle.plan.specs.Charge.{Charged, charge_double, raised, thousandths, charge_questions, charge1965, exact_denominator}
+use Rattle.laws.proofs.Thousandths.{whole_up_to, thousandths_are}
+
+abbrev pub charged : ℕ → ℕ → Answer Charged
+charged bits n = given (record { unrounded = of_bits binary64 bits; in_thousandths = n })
+
+charge-gives : (column r bits n : ℕ) → first_no (charge_questions column r) ≡ passed → charge_double column r ≡ of_bits binary64 bits
+    → max (whole_up_to 1000 (raised (of_bits binary64 bits))) (1000 - 10 * r) ≡ n → charge1965 column r ≡ charged bits n
+unfolding charge1965
+charge-gives column r bits n p x m =
+    rw p (λ i. given (record {
+      unrounded = x i;
+      in_thousandths = (ap (thousandths r) x ∙ thousandths_are r (of_bits binary64 bits) ∙ m) i;
+    }))
+
+abbrev pub ChargeCase : Type 0
+ChargeCase =
+    (charge1965 36 0 ≡ charged 0x3ff0_0000_0000_0000 1000)
+    × (charge1965 36 50 ≡ charged 0x3fe2_fd37_2565_d4a1 593)
+    × (charge1965 36 100 ≡ charged 0x3fd7_0a3d_5fa1_c62e 360)
+    × (charge1965 36 200 ≡ charged 0x3fc2_e880_2ee0_99b1 148)
+    × (charge1965 36 500 ≡ charged 0x3f9b_c3fe_663d_ef2a 27)
+    × (charge1965 44 0 ≡ charged 0x3ff0_0000_0000_0000 1000)
+    × (charge1965 44 50 ≡ charged 0x3fe4_6910_d877_b7c6 638)
+    × (charge1965 44 100 ≡ charged 0x3fdc_28f5_d1ad_a41b 440)
+    × (charge1965 44 200 ≡ charged 0x3fcd_bff4_5003_b341 232)
+    × (charge1965 44 500 ≡ charged 0x3fad_d66e_e611_f8ed 58)
+    × (charge1965 52 0 ≡ charged 0x3ff0_0000_0000_0000 1000)
+    × (charge1965 52 50 ≡ charged 0x3fe5_fbcb_894c_833a 687)
+    × (charge1965 52 100 ≡ charged 0x3fe0_a3d7_0d97_0f20 520)
+    × (charge1965 52 200 ≡ charged 0x3fd5_5e6d_c7ff_f9b1 334)
+    × (charge1965 52 500 ≡ charged 0x3fbc_cb09_fcbc_ad4b 112)
+    -- here r × (r × ..), 1 + (r + ..), powers, h × 0.01, and coefficients times 0.0000001 or divided once, each give another double
+    × (charge1965 50 332 ≡ charged 0x3fc6_8702_7cde_7b61 176)
+    × (charge1965 51 357 ≡ charged 0x3fc5_f5cd_f127_b983 172)
+    -- the exact denominator, times 10 ^ 23
+    × (exact_denominator 36 0 ≡ pos 100000000000000000000000)
+    × (exact_denominator 36 100 ≡ pos 277777790000000000000000)
+    × (exact_denominator 44 50 ≡ pos 156782714492187500000000)
+    × (exact_denominator 52 500 ≡ pos 889101250000000000000000)
+    -- 'Errors: 20 a column outside .36 to .52, then 21 an entry ratio above 5.00'
+    × (charge1965 35 100 ≡ refused 20)
+    × (charge1965 53 100 ≡ refused 20)
+    × (charge1965 36 501 ≡ refused 21)
+    × (charge1965 52 501 ≡ refused 21)
+    × (charge1965 53 501 ≡ refused 20)
+    × (charge1965 0 4294967295 ≡ refused 20)
+
+pub charge_case : ChargeCase
+unfolding charge_double charge1965 exact_denominator add mul div of_int of_bits
+charge_case = (
+  charge-gives 36 0 0x3ff0_0000_0000_0000 1000 refl refl refl,
+  charge-gives 36 50 0x3fe2_fd37_2565_d4a1 593 refl refl refl,
+  charge-gives 36 100 0x3fd7_0a3d_5fa1_c62e 360 refl refl refl,
+  charge-gives 36 200 0x3fc2_e880_2ee0_99b1 148 refl refl refl,
+  charge-gives 36 500 0x3f9b_c3fe_663d_ef2a 27 refl refl refl,
+  charge-gives 44 0 0x3ff0_0000_0000_0000 1000 refl refl refl,
+  charge-gives 44 50 0x3fe4_6910_d877_b7c6 638 refl refl refl,
+  charge-gives 44 100 0x3fdc_28f5_d1ad_a41b 440 refl refl refl,
+  charge-gives 44 200 0x3fcd_bff4_5003_b341 232 refl refl refl,
+  charge-gives 44 500 0x3fad_d66e_e611_f8ed 58 refl refl refl,
+  charge-gives 52 0 0x3ff0_0000_0000_0000 1000 refl refl refl,
+  charge-gives 52 50 0x3fe5_fbcb_894c_833a 687 refl refl refl,
+  charge-gives 52 100 0x3fe0_a3d7_0d97_0f20 520 refl refl refl,
+  charge-gives 52 200 0x3fd5_5e6d_c7ff_f9b1 334 refl refl refl,
+  charge-gives 52 500 0x3fbc_cb09_fcbc_ad4b 112 refl refl refl,
+  charge-gives 50 332 0x3fc6_8702_7cde_7b61 176 refl refl refl,
+  charge-gives 51 357 0x3fc5_f5cd_f127_b983 172 refl refl refl,
+  refl,
+  refl,
+  refl,
+  refl,
+  refl,
+  refl,
+  refl,
+  refl,
+  refl,
+  refl,
+)

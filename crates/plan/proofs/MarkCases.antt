@@ -1,0 +1,84 @@
+-- The cases of document 02, job 2.
+use mathlib.Core.Path.{◌≡◌, refl}
+use mathlib.Core.List.{List, [], ◌∷◌}
+use Prim.Native.Nat.{ℕ}
+use lib.IntN.{pos}
+use Rattle.plan.specs.Arithmetic.{nearest}
+use Rattle.plan.specs.Field.{bit, number, field, bytes_of}
+use Rattle.plan.specs.Claim.{claim_width, claim_at, past_claim, slots_of_claim}
+use Rattle.plan.specs.Risk.{count_at, first_claim}
+use Rattle.plan.specs.File.{Group}
+use Rattle.plan.specs.Losses.{limited_of}
+use Rattle.plan.specs.Marks.{LG, LH}
+use Rattle.plan.specs.Ratable.{SX, SS, ratable}
+use Rattle.plan.specs.Basic.{basic_premium, excess_charge}
+use Rattle.plan.specs.Premium.{bill_rounding, bill_with}
+use Rattle.plan.specs.Calls.{refused, given, rated_of, rate, table, read, write}
+use Rattle.plan.specs.Comparison.{compare}
+use Rattle.plan.proofs.Groups.{header, group, Written, rates, lg, lh}
+use Rattle.plan.proofs.GuaranteedCases.{stock}
+
+-- one risk with one claim of 1 and c 1.000, with P, the mark kind and the two marks
+abbrev pub marked : ℕ → ℕ → ℕ → ℕ → Group
+marked p k g h = group (header 0 p 0 1000 10000 k g h) (1 ∷ []) (1 ∷ [])
+
+-- document 01's 'Loss ratio marks 0.900 and 0.950, c 1.000', with P
+abbrev pub crossing : ℕ → Group
+crossing p = marked p 0 900 950
+
+abbrev pub crossing_file1 : List ℕ
+crossing_file1 = 16 ∷ 0 ∷ 0 ∷ 0 ∷ 0 ∷ 4 ∷ 0 ∷ 0 ∷ 31 ∷ 66 ∷ 113 ∷ 0 ∷ 225 ∷ 7 ∷ 108 ∷ 2 ∷ 4 ∷ 0 ∷ 0 ∷ 64 ∷ []
+
+abbrev pub crossing_file1000 : List ℕ
+crossing_file1000 = 16 ∷ 0 ∷ 0 ∷ 0 ∷ 15 ∷ 160 ∷ 0 ∷ 0 ∷ 31 ∷ 66 ∷ 113 ∷ 0 ∷ 225 ∷ 7 ∷ 108 ∷ 2 ∷ 4 ∷ 0 ∷ 0 ∷ 64 ∷ []
+
+-- P 1 with entry ratio marks 0.900 and 0.950, and with loss ratio marks 0.950 and 0.950
+abbrev pub entry_file : List ℕ
+entry_file = 16 ∷ 0 ∷ 0 ∷ 0 ∷ 0 ∷ 4 ∷ 0 ∷ 0 ∷ 31 ∷ 66 ∷ 113 ∷ 8 ∷ 225 ∷ 7 ∷ 108 ∷ 2 ∷ 4 ∷ 0 ∷ 0 ∷ 64 ∷ []
+
+abbrev pub equal_file : List ℕ
+equal_file = 16 ∷ 0 ∷ 0 ∷ 0 ∷ 0 ∷ 4 ∷ 0 ∷ 0 ∷ 31 ∷ 66 ∷ 113 ∷ 0 ∷ 237 ∷ 135 ∷ 108 ∷ 2 ∷ 4 ∷ 0 ∷ 0 ∷ 64 ∷ []
+
+-- P 1 with loss ratio marks 0.900 and 6.001, and with 0.900 and 0.950 and no risks
+abbrev pub above_file : List ℕ
+above_file = 16 ∷ 0 ∷ 0 ∷ 0 ∷ 0 ∷ 4 ∷ 0 ∷ 0 ∷ 31 ∷ 66 ∷ 113 ∷ 0 ∷ 225 ∷ 46 ∷ 226 ∷ 2 ∷ 4 ∷ 0 ∷ 0 ∷ 64 ∷ []
+
+abbrev pub no_risks_file : List ℕ
+no_risks_file = 16 ∷ 0 ∷ 0 ∷ 0 ∷ 0 ∷ 4 ∷ 0 ∷ 0 ∷ 31 ∷ 66 ∷ 113 ∷ 0 ∷ 225 ∷ 7 ∷ 108 ∷ 0 ∷ []
+
+abbrev pub MarksCase : Type 0
+MarksCase =
+    -- 'The P 1 example of document 01 is refused from now on': its marks are 0 dollars both
+    Written (crossing 1) crossing_file1
+    × (lg crossing_file1 ≡ 0)
+    × (lh crossing_file1 ≡ 0)
+    × (rate crossing_file1 4 ≡ refused 18)
+    -- 'and the P 1,000 one gives 18 in place of 11'
+    × Written (crossing 1000) crossing_file1000
+    × (lg crossing_file1000 ≡ 900)
+    × (lh crossing_file1000 ≡ 950)
+    × (rate crossing_file1000 4 ≡ refused 18)
+    -- 'in Rate, Read, Table and Write', and in job 1's call, which opens a file as Rate does
+    × (read crossing_file1 1 1 1 ≡ refused 18)
+    × (table crossing_file1 100 ≡ refused 18)
+    × (write (crossing 1) 20 ≡ refused 18)
+    × (compare crossing_file1 (stock 0) 4 1 ≡ refused 18)
+    -- 'as written', whatever the mark kind
+    × Written (marked 1 1 900 950) entry_file
+    × (rate entry_file 4 ≡ refused 18)
+    -- equal marks pass, and are rated, read and written
+    × (rate equal_file 4 ≡ rates 1 (pos 1000) 0 1 (1 ∷ []))
+    × (read equal_file 1 1 1 ≡ given (marked 1 0 950 950))
+    × (write (marked 1 0 950 950) 20 ≡ given equal_file)
+    -- 'after 6 and before 7'
+    × Written (marked 1 0 900 6001) above_file
+    × (rate above_file 4 ≡ refused 6)
+    × (write (marked 1 0 900 6001) 20 ≡ refused 6)
+    × Written (group (crossing 1).header [] []) no_risks_file
+    × (rate no_risks_file 0 ≡ refused 18)
+    × (write (group (crossing 1).header [] []) 16 ≡ refused 18)
+
+pub marks_case : MarksCase
+unfolding bytes_of number bit field claim_width claim_at past_claim slots_of_claim count_at first_claim limited_of LG LH SX SS ratable basic_premium excess_charge nearest bill_rounding bill_with rated_of rate table read write compare
+marks_case =
+    (refl, refl, refl, refl, refl, refl, refl, refl, refl, refl, refl, refl, refl, refl, refl, refl, refl, refl, refl, refl, refl, refl, refl)

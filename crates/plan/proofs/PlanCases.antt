@@ -1,0 +1,60 @@
+-- The cases of document 02, job 6, on the group of four: M ÷ (1,000 × n) is 1,675, and the taxed expenses and losses are 33,600.
+use mathlib.Core.Path.{◌≡◌, refl}
+use Prim.Native.Nat.{ℕ, ◌+◌, ◌*◌, ◌-◌}
+use lib.IntN.{ℤ, pos, negsuc}
+use Rattle.plan.specs.Arithmetic.{nearest}
+use Rattle.plan.specs.Field.{bit, number, field}
+use Rattle.plan.specs.Claim.{claim_width, claim_at, past_claim}
+use Rattle.plan.specs.Risk.{count_at, first_claim}
+use Rattle.plan.specs.Losses.{limited_of}
+use Rattle.plan.specs.Marks.{LG, LH}
+use Rattle.plan.specs.Ratable.{SX, SS, ratable}
+use Rattle.plan.specs.Basic.{basic_premium, excess_charge}
+use Rattle.plan.specs.Demand3.{taxed_expenses_and_losses}
+use Rattle.plan.specs.Calls.{Answer, refused, given}
+use Rattle.plan.specs.SoldOnPremiums.{Plan, premiums_at, halvings, plan_for}
+use Rattle.plan.proofs.Groups.{four_file, tens_file2000}
+use Rattle.plan.proofs.MarkCases.{crossing_file1}
+
+abbrev pub plans : ℕ → ℕ → ℤ → Answer Plan
+plans made best short = given (record { made = made; best = best; short = short })
+
+-- G where no maximum is in effect
+abbrev pub unbounded : ℕ
+unbounded = 4294967295
+
+abbrev pub PlanCase : Type 0
+PlanCase =
+    -- Rate's own greatest and least premium for G and H: Rate's basic, and the total is met exactly, so that more than it would be 1,676
+    (plan_for four_file 13020 4935 20 ≡ plans 20 1675 (pos 1674))
+    × (premiums_at four_file 13020 4935 1675 ≡ 10000000 * 4 * 33600)
+    × (premiums_at four_file 13020 4935 1674 ≡ 10000000 * 4 * 33600 - 2 * 42000000)
+    -- bounds that bind below and above: 50 cents over, where two premiums rise, by 1.05 each a dollar
+    × (plan_for four_file 12000 5000 20 ≡ plans 20 2130 (pos 2129))
+    × (premiums_at four_file 12000 5000 2130 ≡ 10000000 * 4 * 33600 + 20000000)
+    -- no bounds in effect
+    × (plan_for four_file unbounded 0 20 ≡ plans 20 1400 (pos 1399))
+    -- all premiums the same
+    × (plan_for four_file 8400 8400 20 ≡ plans 20 0 (negsuc 0))
+    -- whole dollars alone would need 3,289, and rounded bills 5,032
+    × (plan_for four_file 10250 0 20 ≡ plans 20 3288 (pos 3287))
+    × (plan_for four_file 9150 0 20 ≡ plans 20 5033 (pos 5032))
+    -- 'A number of trials is given'
+    × (plan_for four_file 13020 4935 0 ≡ plans 0 1048575 (negsuc 0))
+    × (plan_for four_file 13020 4935 1 ≡ plans 1 524287 (negsuc 0))
+    × (plan_for four_file 13020 4935 10 ≡ plans 10 2047 (pos 1023))
+    × (plan_for four_file 13020 4935 19 ≡ plans 19 1675 (pos 1673))
+    × (plan_for four_file 13020 4935 21 ≡ plans 20 1675 (pos 1674))
+    -- '23 no B in the range reaches the total', with no trial too
+    × (plan_for four_file 8399 0 20 ≡ refused 23)
+    × (plan_for four_file 8399 0 0 ≡ refused 23)
+    -- '22 H above G, then 23', after 1 to 10
+    × (plan_for four_file 8398 8399 20 ≡ refused 22)
+    × (plan_for crossing_file1 0 1 20 ≡ refused 18)
+    -- no 12: what Rate refuses by it has a plan
+    × (plan_for tens_file2000 unbounded 0 20 ≡ plans 20 0 (negsuc 0))
+
+pub plan_case : PlanCase
+unfolding number bit field claim_width claim_at past_claim count_at first_claim limited_of LG LH SX SS ratable basic_premium excess_charge nearest taxed_expenses_and_losses premiums_at halvings plan_for
+plan_case =
+    (refl, refl, refl, refl, refl, refl, refl, refl, refl, refl, refl, refl, refl, refl, refl, refl, refl, refl, refl)
