@@ -8,7 +8,7 @@ use native.Mathlib.Omega.{arith}
 use lib.Pow.{shr-shr, high, low}
 use Rattle.plan.specs.Field.{field}
 use Rattle.laws.proofs.Fields.{field_lt, field-split}
-use Rattle.bits.proofs.Words.{front-after}
+use Rattle.bits.proofs.Shifts.{front-after}
 use Rattle.bits.specs.Take.{Ahead}
 
 -- the word of eight bytes

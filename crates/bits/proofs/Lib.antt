@@ -3,7 +3,7 @@
 mod OneByte
 mod Parts
 mod Whole
-pub mod Words
+pub mod Shifts
 pub mod Takes
 pub mod Fronts
 pub mod Puts

@@ -5,7 +5,7 @@ use Prim.Native.Nat.{ℕ, ◌+◌, ◌-◌, ◌*◌, ◌/◌, ◌%◌, ◌^◌, 
 use native.Mathlib.Nat.{div-eq_of_lt, div-one}
 use native.Mathlib.Omega.{arith}
 use Rattle.bits.specs.Put.{Put, InByte}
-use Rattle.bits.proofs.Words.{next-bits}
+use Rattle.bits.proofs.Shifts.{next-bits}
 use Rattle.bits.proofs.Puts.{put-none, put-put}
 
 -- t has all bits of the value but the `left` lowest

@@ -10,7 +10,7 @@ use native.Mathlib.Omega.{arith}
 use lib.Pow.{pow_pos, shr_lt, split, high, low}
 use Rattle.plan.specs.Field.{field, Slot, slot, total_width, Laid, Fitting}
 use Rattle.laws.proofs.Fields.{by_cases, field_lt, field-split, field-bits}
-use Rattle.bits.proofs.Words.{joined-lt}
+use Rattle.bits.proofs.Shifts.{joined-lt}
 use Rattle.bits.specs.Runs.{Space}
 use Rattle.bits.proofs.Runs.{Putting}
 

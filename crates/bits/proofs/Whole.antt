@@ -9,7 +9,7 @@ use Rattle.std.specs.Int.{byte_at, bytes_high_first, to_be_bytes}
 use Rattle.std.proofs.lemmas.List.{places}
 use Rattle.plan.specs.Field.{bit, field}
 use Rattle.laws.proofs.Fields.{Bytes, field-none, field-split, field_at, field-byte}
-use Rattle.bits.proofs.Words.{next-bits}
+use Rattle.bits.proofs.Shifts.{next-bits}
 use Rattle.bits.specs.Put.{Put}
 
 -- a power of 256 is one of 2

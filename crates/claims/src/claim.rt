@@ -7,10 +7,10 @@ ghost use Rattle.bits.specs.Take.{Took};
 ghost use Rattle.claims.specs.Claim.{ClaimReach, ClaimTaken, front_dollars};
 ghost use Rattle.group.specs.Edition.{edition_number};
 
+use bits::words::{extract, highest};
+use bits::{BitPlace, Taken};
 use group::edition::{ClaimFile, Edition};
 use group::widths::{DOLLARS_WIDTH, MOST_CLAIM_WIDTH};
-use bits::{BitPlace, Taken};
-use bits::words::{extract, highest};
 
 // The largest claim.
 pub const LARGEST_CLAIM: u32 = 1048575;

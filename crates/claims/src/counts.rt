@@ -7,11 +7,11 @@ ghost use Rattle.plan.specs.Risk.{count_width};
 ghost use Rattle.plan.specs.Sizes.{most_risks, most_file_bits};
 ghost use Rattle.claims.specs.Counts.{HeadIs, CountedIs};
 
-use bits::BitPlace;
-use group::widths::{COUNT_WIDTH, joined_width};
-use group::edition::ClaimFile;
 use crate::span::ClaimSpan;
+use bits::BitPlace;
 use bits::words::{extract, highest};
+use group::edition::ClaimFile;
+use group::widths::{COUNT_WIDTH, joined_width};
 
 // Bits of a count and of the bit behind it, and those of a word below a count.
 const HEAD_WIDTH: u32 = 7;

@@ -4,9 +4,9 @@ ghost use Rattle.plan.specs.Claim.{claim_width};
 ghost use Rattle.claims.specs.Claim.{ClaimReach, RunReach};
 ghost use Rattle.group.specs.Edition.{edition_number};
 
-use group::widths::{MOST_CLAIM_WIDTH, claim_width};
-use group::edition::Edition;
 use bits::BitPlace;
+use group::edition::Edition;
+use group::widths::{MOST_CLAIM_WIDTH, claim_width};
 
 // The place of the first claim, and as many as a risk has at most, from where one of a file can begin.
 #[derive(Clone, Copy)]

@@ -6,10 +6,10 @@ ghost use Rattle.plan.specs.Header.{edition_of};
 ghost use Rattle.claims.specs.Run.{ClaimsAre};
 ghost use Rattle.claims.specs.Sums.{claim_in, first_low, second_low, RoomFor, Added, LossesAre};
 
-use group::widths::DOLLARS_WIDTH;
 use crate::run::ClaimRun;
 use crate::span::ClaimSpan;
 use bits::BitPlace;
+use group::widths::DOLLARS_WIDTH;
 
 pub trait Sums: Copy {
     // Bits of the field before a claim's dollars.

@@ -3,7 +3,10 @@ ghost use Rattle.groupfile.specs.Header.{FileHeaderIs};
 
 use bits::BitPlace;
 use group::Header;
-use group::widths::{CONVERSION_WIDTH, EDITION_WIDTH, EXPENSE_WIDTH, LOSS_LIMIT_WIDTH, MARK_KIND_WIDTH, MARK_WIDTH, RISKS_WIDTH, SPARE_WIDTH, STANDARD_PREMIUM_WIDTH, TAX_WIDTH};
+use group::widths::{
+    CONVERSION_WIDTH, EDITION_WIDTH, EXPENSE_WIDTH, LOSS_LIMIT_WIDTH, MARK_KIND_WIDTH, MARK_WIDTH,
+    RISKS_WIDTH, SPARE_WIDTH, STANDARD_PREMIUM_WIDTH, TAX_WIDTH,
+};
 
 // The header as a file has it: the header values, what stands around them, with the edition as the number that may be none's, and the
 // place where the header ends.

@@ -8,13 +8,13 @@ ghost use Rattle.group.specs.Refusals.{verdict_is};
 ghost use Rattle.groupfile.specs.Header.{FileHeaderIs};
 ghost use Rattle.groupfile.specs.Opening.{OpenedIs, OutlineIs};
 
-use bits::BitPlace;
-use group::edition::{ClaimFile, Edition};
-use claims::counts::{Counted, count_claims};
-use group::{GroupLosses, Header, Refusal};
 use crate::header::{FileHeader, header_of};
+use bits::BitPlace;
+use claims::counts::{Counted, count_claims};
+use group::edition::{ClaimFile, Edition};
 use group::questions::header_verdict;
 use group::widths::HEADER_BYTES;
+use group::{GroupLosses, Header, Refusal};
 use losses::walking::walk;
 
 // The risks as they lie in a file, for a call that goes over their claims: the number of the edition as the file has it, which may be

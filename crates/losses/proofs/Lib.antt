@@ -5,5 +5,5 @@ mod Joining
 -- The law of a risk passed, and the law of the running sums.
 mod Passing
 -- The law of the loop.
-mod Walking
+mod WalkLoop
 pub mod RunningSums

@@ -4,11 +4,11 @@ ghost use Rattle.std.specs.Prelude.{◌≤◌};
 ghost use Rattle.plan.specs.Sizes.{most_risk_losses};
 
 use bits::BitPlace;
-use group::widths::DOLLARS_WIDTH;
+use bits::words::extract;
 use claims::run::{ClaimRun, limited_to};
 use claims::sums::Sums;
 use group::Losses;
-use bits::words::extract;
+use group::widths::DOLLARS_WIDTH;
 
 // Bits of a word below the first claim on its front and below the second.
 const FIRST_LOW: u32 = 43;

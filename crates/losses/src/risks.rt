@@ -7,14 +7,14 @@ ghost use Rattle.losses.specs.Risk.{RiskIs};
 ghost use Rattle.losses.specs.RunningSums.{NextRisk, RiskPassed};
 
 use crate::accidents::AccidentSums;
+use crate::singles::ClaimSums;
 use bits::BitPlace;
-use group::edition::{ClaimFile, Edition};
+use claims::counts::head_at;
 use claims::run::ClaimRun;
 use claims::span::ClaimSpan;
 use claims::sums::run_of;
-use claims::counts::head_at;
 use group::Losses;
-use crate::singles::ClaimSums;
+use group::edition::{ClaimFile, Edition};
 
 // A risk as the file has it: the number of its claims, whether its first claim opens an accident, L and A, and the place after it.
 #[derive(Clone, Copy)]

@@ -4,10 +4,10 @@ ghost use Rattle.losses.specs.Singles.{ClaimRoom, ClaimAdded, ClaimsSummed};
 
 use bits::BitPlace;
 use claims::claim::{LARGEST_CLAIM, dollars_ahead, limited_ahead};
-use group::widths::DOLLARS_WIDTH;
 use claims::run::{ClaimRun, limited_to};
 use claims::sums::Sums;
 use group::Losses;
+use group::widths::DOLLARS_WIDTH;
 
 // The sums of some claims of a risk, each an accident of its own: L and A of them. `most` is what the limit leaves of the largest claim.
 #[derive(Clone, Copy)]

@@ -6,12 +6,12 @@ ghost use Rattle.plan.specs.Header.{header_bits};
 ghost use Rattle.plan.specs.Sizes.{most_risks};
 ghost use Rattle.losses.specs.Walks.{WalkIs};
 
+use crate::risks::{SumsSoFar, pass_risk};
 use arrayvec::ArrayVec;
 use bits::BitPlace;
-use group::edition::ClaimFile;
 use claims::counts::Counted;
 use group::GroupLosses;
-use crate::risks::{SumsSoFar, pass_risk};
+use group::edition::ClaimFile;
 
 // What the walk gives: what the counts tell, and the losses.
 #[derive(Drop)]

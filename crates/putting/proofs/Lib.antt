@@ -6,4 +6,4 @@ pub mod AsOne
 pub mod Claims
 pub mod Run
 pub mod Risks
-pub mod Runs
+pub mod FileFields

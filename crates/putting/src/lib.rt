@@ -18,16 +18,16 @@ pub mod given;
 pub mod pairs;
 pub mod runs;
 
-use bits::BitPlace;
-use group::edition::Edition;
-use group::Header;
-use group::given::GroupValues;
-use group::widths::{
-    CONVERSION_WIDTH, COUNT_WIDTH, EDITION_WIDTH, EXPENSE_WIDTH, LOSS_LIMIT_WIDTH, MARK_KIND_WIDTH, MARK_WIDTH,
-    RISKS_WIDTH, SPARE_WIDTH, STANDARD_PREMIUM_WIDTH, TAX_WIDTH,
-};
 use crate::given::GivenClaims;
 use crate::runs::put_claims;
+use bits::BitPlace;
+use group::Header;
+use group::edition::Edition;
+use group::given::GroupValues;
+use group::widths::{
+    CONVERSION_WIDTH, COUNT_WIDTH, EDITION_WIDTH, EXPENSE_WIDTH, LOSS_LIMIT_WIDTH, MARK_KIND_WIDTH,
+    MARK_WIDTH, RISKS_WIDTH, SPARE_WIDTH, STANDARD_PREMIUM_WIDTH, TAX_WIDTH,
+};
 
 // Puts edition to loss conversion factor, and gives the place after them.
 fn put_first(out: &mut [u8], edition: Edition, h: Header) -> BitPlace

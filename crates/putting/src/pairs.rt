@@ -7,8 +7,8 @@ ghost use Rattle.std.specs.Prelude.{◌≡◌, ◌+◌, ◌*◌, ◌^◌, ◌≤
 ghost use Rattle.plan.specs.Sizes.{most_claim_width};
 ghost use Rattle.plan.specs.Claim.{dollars_width};
 
-use group::widths::DOLLARS_WIDTH;
 use bits::words::join;
+use group::widths::DOLLARS_WIDTH;
 
 // Bytes of a pair of claims without bits.
 pub const PAIR_BYTES: usize = 5;

@@ -9,13 +9,12 @@ ghost use Rattle.group.specs.Edition.{edition_number};
 ghost use Rattle.putting.specs.Edition.{edition_by};
 ghost use Rattle.putting.specs.Claims.{claims_are};
 
-
-use bits::BitPlace;
-use group::widths::DOLLARS_WIDTH;
-use group::edition::Edition;
 use crate::given::GivenClaims;
 use crate::pairs::{PAIR_BYTES, as_one, pair_after};
+use bits::BitPlace;
 use bits::words::extract;
+use group::edition::Edition;
+use group::widths::DOLLARS_WIDTH;
 
 // Bits of a byte.
 const BYTE_WIDTH: u32 = 8;

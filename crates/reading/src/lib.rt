@@ -10,9 +10,9 @@ ghost use Rattle.reading.specs.Reading.{bit, buffers, RisksRoom, ReadSays};
 
 use bits::BitPlace;
 use claims::claim::claim_at;
-use group::edition::ClaimFile;
-use claims::span::ClaimSpan;
 use claims::counts::head_at;
+use claims::span::ClaimSpan;
+use group::edition::ClaimFile;
 use group::{Header, Refusal};
 use groupfile::opening::{Outline, open_outline};
 

@@ -15,9 +15,9 @@ ghost use Rattle.guaranteed.specs.Schedules.{layers_of};
 ghost use Rattle.retro_c.specs.Exported.{numbers, RateExported, TableExported, ReadExported, WriteExported};
 ghost use Rattle.retro_c.specs.Exported.{lent, CompareExported, ChargeExported, plan_lent, PlanExported};
 
-use guaranteed::schedule::Schedule;
 use group::Header;
 use guaranteed::compare;
+use guaranteed::schedule::Schedule;
 
 // Read's answer: 0 or the refusal, n, the header values and the edition, which is the number that C gets; where it is a refusal all else
 // is 0. The C struct has the header's fields in their place, which is the same layout.

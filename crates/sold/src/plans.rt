@@ -8,11 +8,12 @@ ghost use Rattle.plan.specs.SoldOnPremiums.{most_basic, halvings};
 ghost use Rattle.group.specs.Refusals.{answer_is};
 ghost use Rattle.sold.specs.PremiumPlans.{reached_by, plan_is, SoldBy};
 
+use crate::owed::owed_of;
+use crate::totals::{BasicPremium, PlanTerms, Target};
 use gates::open_losses;
 use group::Refusal;
 use groupfile::opening::Opened;
 use steps::basic::excess_of;
-use crate::totals::{BasicPremium, PlanTerms, Target, owed_of};
 
 // The trials made, the best basic premium yet that reaches the total, and the largest known to fall short, if one is.
 #[derive(Clone, Copy)]

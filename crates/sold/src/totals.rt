@@ -5,7 +5,6 @@ ghost use Rattle.std.specs.List.{All};
 ghost use Rattle.plan.specs.Sizes.{most_risks, most_risk_losses, most_group_losses};
 ghost use Rattle.plan.specs.SoldOnPremiums.{most_basic};
 
-
 use group::Losses;
 use steps::bill::PREMIUM_SCALE;
 

@@ -10,9 +10,9 @@ ghost use Rattle.steps.specs.Marks.{MarksAre};
 
 use crate::basic::{basic_of, excess_of};
 use crate::bill::Terms;
+use crate::marks::Mark;
 use crate::spread::{above_in_all, below_in_all};
 use group::{GroupLosses, Header, Refusal};
-use crate::marks::Mark;
 
 // LG and LH.
 #[derive(Clone, Copy)]

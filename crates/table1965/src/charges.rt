@@ -6,8 +6,8 @@ ghost use Rattle.plan.specs.Charge.{charge_double, last_ratio};
 ghost use Rattle.group.specs.Refusals.{answer_is};
 ghost use Rattle.table1965.specs.Charges.{ChargeIs, charged_is, OnTableGiven};
 
-use group::Refusal;
 use crate::matrix::Column;
+use group::Refusal;
 use std::num::truncating_f64_to_u64;
 
 // The largest entry ratio that is taken, in hundredths.

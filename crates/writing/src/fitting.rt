@@ -13,14 +13,14 @@ ghost use Rattle.group.specs.Values.{header_is};
 ghost use Rattle.group.specs.Given.{group_is};
 ghost use Rattle.writing.specs.Fitting.{OpensSays, OpenSays};
 
+use bits::words::value_fits;
 use group::edition::Edition;
-use group::{Header, MOST_CLAIMS, MOST_RISKS};
+use group::given::GroupValues;
 use group::widths::{
     CONVERSION_WIDTH, DOLLARS_WIDTH, EXPENSE_WIDTH, LOSS_LIMIT_WIDTH, MARK_KIND_WIDTH, MARK_WIDTH,
     STANDARD_PREMIUM_WIDTH, TAX_WIDTH, joined_width,
 };
-use group::given::GroupValues;
-use bits::words::value_fits;
+use group::{Header, MOST_CLAIMS, MOST_RISKS};
 
 // ---- question 15
 

@@ -8,12 +8,12 @@ ghost use Rattle.plan.specs.Risk.{count_width};
 ghost use Rattle.group.specs.Edition.{edition_number};
 ghost use Rattle.writing.specs.Writer.{given_group, WriteSays};
 
-use group::edition::Edition;
-use group::widths::{COUNT_WIDTH, HEADER_BYTES, claim_width};
 use crate::fitting::{risks_open, values_fit};
-use group::{Header, Refusal};
-use group::questions::header_verdict;
+use group::edition::Edition;
 use group::given::GroupValues;
+use group::questions::header_verdict;
+use group::widths::{COUNT_WIDTH, HEADER_BYTES, claim_width};
+use group::{Header, Refusal};
 use putting::put_file;
 
 // The length of a file of an edition with so many risks, 255 at most (`group` says why that is no type), and claims.

@@ -6,8 +6,8 @@ use lib.ListN.{get_or}
 use Rattle.bits.specs.Runs.{Wrote}
 use Rattle.plan.specs.File.{file_slots}
 use Rattle.group.specs.Given.{group_is}
-use Rattle.putting.proofs.Runs.{sound, small, first-space, last-space, after_last, fields-wrote}
-use Rattle.putting.proofs.Runs.{fill-starts, fill-small, fill-room, file-put}
+use Rattle.putting.proofs.FileFields.{sound, small, first-space, last-space, after_last, fields-wrote}
+use Rattle.putting.proofs.FileFields.{fill-starts, fill-small, fill-room, file-put}
 use Rattle.putting.proofs.put_file.Goals as goal
 use Rattle.putting.proofs.put_file.Goals.{After-put_risks-end}
 

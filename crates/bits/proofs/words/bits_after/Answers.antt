@@ -1,5 +1,5 @@
 -- A shift to the left drops the bits before the field, and shifts to the right those after it.
-use Rattle.bits.proofs.Words.{after-skip}
+use Rattle.bits.proofs.Shifts.{after-skip}
 use Rattle.bits.proofs.words.bits_after.Goals as goal
 
 pub returns : goal.returns

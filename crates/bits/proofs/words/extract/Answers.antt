@@ -1,6 +1,6 @@
 -- A shift and a mask are a quotient and a remainder.
 use Prim.Native.Nat.{◌/◌, ◌^◌}
-use Rattle.bits.proofs.Words.{masked}
+use Rattle.bits.proofs.Shifts.{masked}
 use Rattle.bits.proofs.words.extract.Goals as goal
 
 pub returns : goal.returns

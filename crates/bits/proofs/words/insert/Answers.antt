@@ -1,6 +1,6 @@
 -- The new byte is the bits above, the part and the bits below, joined.
 use native.Mathlib.Nat.{div-one}
-use Rattle.bits.proofs.Words.{parts}
+use Rattle.bits.proofs.Shifts.{parts}
 use Rattle.bits.proofs.words.insert.Goals as goal
 
 pub overflow_cast-result-2 : goal.overflow_cast-result-2

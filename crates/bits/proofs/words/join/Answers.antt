@@ -1,5 +1,5 @@
 -- The bits of `high` and of `low` do not meet.
-use Rattle.bits.proofs.Words.{joined}
+use Rattle.bits.proofs.Shifts.{joined}
 use Rattle.bits.proofs.words.join.Goals as goal
 
 pub returns : goal.returns

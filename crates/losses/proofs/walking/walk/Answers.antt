@@ -5,7 +5,7 @@ use Rattle.plan.specs.Header.{header_bits}
 use Rattle.plan.specs.Losses.{losses_from}
 use Rattle.losses.specs.RunningSums.{SumsAre}
 use Rattle.losses.proofs.RunningSums.{next-risk, passed-next}
-use Rattle.losses.proofs.Walking.{kept-length, kept_more}
+use Rattle.losses.proofs.WalkLoop.{kept-length, kept_more}
 use Rattle.losses.proofs.walking.walk.Goals as goal
 
 pub pass_risk-risk-requires : goal.pass_risk-risk-requires
