@@ -1,12 +1,13 @@
--- Laws of words and of the fields that lie in them. Crates above cite them as Rattle.words.proofs.Takes.
--- Laws of taking and putting, one field or a run of them. Crates above cite the public ones, as Rattle.bits.proofs.Runs.
+-- Laws of words, of the fields that lie in them, and of taking and putting, one field or a run of them.
+mod Shifts
+mod Takes
 mod OneByte
 mod Parts
 mod Whole
-pub mod Shifts
-pub mod Takes
-pub mod Fronts
-pub mod Puts
-pub mod Runs
-pub mod Regrouped
-pub mod WholeBytes
+mod Fronts
+mod Puts
+mod Runs
+mod Regrouped
+mod WholeBytes
+-- what crates above cite
+pub mod Laws

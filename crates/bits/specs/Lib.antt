@@ -1,5 +1,4 @@
--- What joining and inserting bits ask for and give.
--- What taking and putting a field, and putting a run of fields, ask for and give.
+-- What joining and inserting bits, taking and putting a field, and putting a run of fields ask for and give.
 pub mod Words
 pub mod Take
 pub mod Put

@@ -1,6 +1,7 @@
--- Laws that the loops over claims cite.
--- The laws of a risk's first claim, and of the loop over the counts.
+-- Laws of a claim taken, of where a claim's word ends, of a risk's first claim, and of the loop over the counts.
+mod Taking
+mod Reach
 mod Opening
-pub mod Reach
-pub mod Taking
-pub mod Counting
+mod Counting
+-- what crates above cite
+pub mod Laws

@@ -9,7 +9,7 @@ use Rattle.plan.specs.Header.{edition_of}
 use Rattle.plan.specs.Claim.{Claim, claim, joined, dollars, joined_width, dollars_width, claim_width, claim_at, past_claim, claims_from, past_claims}
 use Rattle.laws.proofs.Claims.{width_is, joined_at, dollars-at, past-claim, claims-split}
 use Rattle.bits.specs.Take.{Ahead}
-use Rattle.bits.proofs.Fronts.{front-part}
+use Rattle.bits.proofs.Laws.{front-part}
 use Rattle.group.specs.Edition.{edition_number, LieAs}
 use Rattle.group.specs.declared.edition.Edition.{Edition}
 use Rattle.claims.specs.Sums.{claim_in, first_low, second_low}

@@ -1,5 +1,4 @@
--- What taking a claim asks for and gives, and what a run of claims comes to.
--- What the counts of risks give.
+-- What taking a claim asks for and gives, what a run of claims comes to, and what the counts of risks give.
 pub mod Claim
 pub mod Run
 pub mod Sums

@@ -1,5 +1,4 @@
-// One claim as it lies in a file of either edition: its widths, taken at a place or from a word's front; and where a run of claims
-// ends. How claims are put is the crate `runs`.
+// One claim as it lies in a file of either edition, taken at a place or from a word's front. How claims are put is `putting::runs`.
 ghost use Rattle.std.specs.Prelude.{◌≡◌, ◌≤◌, min};
 ghost use Rattle.plan.specs.Sizes.{largest_claim};
 ghost use Rattle.plan.specs.Claim.{claim_width};

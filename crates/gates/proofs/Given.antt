@@ -14,7 +14,7 @@ use Rattle.group.specs.Values.{losses_of, losses_is, LossesAre}
 use Rattle.group.specs.declared.Losses as group
 use Rattle.group.specs.declared.Refusal.{Refusal}
 use Rattle.group.specs.declared.GroupLosses.{GroupLosses}
-use Rattle.group.proofs.Group.{risks}
+use Rattle.group.proofs.Laws.{risks}
 use Rattle.steps.specs.Terms.{terms_is}
 use Rattle.steps.specs.declared.bill.Terms.{Terms}
 use Rattle.groupfile.specs.declared.opening.Opened.{Opened}

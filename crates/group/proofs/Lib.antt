@@ -1,3 +1,5 @@
--- Laws of the code's losses and verdicts. Crates above cite them as Rattle.group.proofs.Group and the like.
-pub mod Group
-pub mod Verdicts
+-- Laws of the code's losses and verdicts.
+mod Group
+mod Verdicts
+-- what crates above cite
+pub mod Laws

@@ -1,4 +1,3 @@
--- What taking the header gives.
--- What opening a file gives.
+-- What taking the header and opening a file give.
 pub mod Header
 pub mod Opening

@@ -1,5 +1,4 @@
--- Laws of the rows, which the functions' proofs cite.
--- Laws that the proofs of several functions cite.
+-- Laws of a schedule's rows, of the loop over differences, and of the call's answer.
+mod Rows
 mod Differencing
 mod Answers
-pub mod Rows

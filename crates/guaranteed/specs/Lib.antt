@@ -1,4 +1,3 @@
--- A schedule as document 02's, and what a discount is computed from.
--- The call's answer as document 02's.
+-- A schedule and the call's answer as document 02's, and what a discount is computed from.
 pub mod Schedules
 pub mod Comparisons

@@ -1,9 +1,7 @@
--- The law of the loop.
+-- Laws of a claim more, in either edition, of a risk passed, and of the loop over risks.
 mod Summing
--- The law of a claim more.
 mod Joining
--- The law of a risk passed, and the law of the running sums.
 mod Passing
--- The law of the loop.
 mod WalkLoop
+-- the running sums over calls of `pass_risk`, one after another, which crates above cite
 pub mod RunningSums

@@ -12,7 +12,7 @@ use Rattle.plan.specs.Losses.{total_of, limited_of}
 use Rattle.laws.proofs.Risks.{count-le, past-risks-more}
 use Rattle.laws.proofs.Losses.{limited-total, SA≤SL, risk-total-le, SL-so-far, SA-so-far, SL-le}
 use Rattle.bits.specs.declared.BitPlace.{BitPlace}
-use Rattle.claims.proofs.Counting.{Counting, counts-sum, open-sum, counting-place, counting-most}
+use Rattle.claims.proofs.Laws.{Counting, counts-sum, open-sum, counting-place, counting-most}
 use Rattle.losses.specs.Risk.{RiskIs}
 use Rattle.losses.specs.RunningSums.{SumsAre, RiskPassed}
 use Rattle.losses.specs.declared.risks.Risk.{Risk}

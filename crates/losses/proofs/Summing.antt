@@ -12,7 +12,7 @@ use Rattle.plan.specs.Losses.{limited_to, total_of}
 use Rattle.laws.proofs.Sums.{sum-append}
 use Rattle.laws.proofs.Accidents.{one_more}
 use Rattle.laws.proofs.Losses.{most-limited, limited-parts, limited-total, none-limited, limited-le}
-use Rattle.bits.proofs.Shifts.{front-after}
+use Rattle.bits.proofs.Laws.{front-after}
 use Rattle.claims.specs.Claim.{front_dollars}
 use Rattle.claims.specs.Sums.{claim_in}
 use Rattle.losses.specs.Singles.{ClaimRoom, ClaimAdded, ClaimsSummed}

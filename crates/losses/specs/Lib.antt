@@ -1,7 +1,4 @@
--- What adding a claim asks for and gives.
--- What adding claims to the sums asks for and gives.
--- What a risk comes to, and the running sums with it.
--- What the walk gives.
+-- What adding a claim asks for and gives, in either edition; what a risk comes to, and the running sums with it; and what the walk gives.
 pub mod Singles
 pub mod Accidents
 pub mod Risk

@@ -1,4 +1,4 @@
--- Document 01 as definitions, in its order. The laws about them are in ../proofs; there is no code in this crate.
+-- Documents 01 and 02 as definitions, in their order: all that a reader must believe. What follows from them is the crate `laws`.
 pub mod Arithmetic
 pub mod Sizes
 -- The group file

@@ -7,9 +7,8 @@ use native.Mathlib.Omega.{arith}
 use lib.ListN.{length, get_or}
 use Rattle.plan.specs.Field.{Slot, slots, total_width, Laid, Fitting}
 use Rattle.plan.specs.Claim.{Claim, claim, joined_width, dollars_width, slots_of_claim, slots_of_claims, claims_of}
-use Rattle.bits.proofs.Shifts.{joined-lt}
+use Rattle.bits.proofs.Laws.{joined-lt, laid-two}
 use Rattle.bits.specs.Runs.{Space, Wrote}
-use Rattle.bits.proofs.Regrouped.{laid-two}
 
 -- a claim as one number
 abbrev pub as_one : Claim → ℕ

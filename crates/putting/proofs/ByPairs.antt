@@ -14,8 +14,7 @@ use Rattle.plan.specs.Field.{field, Slot, slot, slots}
 use Rattle.laws.proofs.Rests.{rest_more}
 use Rattle.bits.specs.Put.{Room, WholeBytes, Put}
 use Rattle.bits.specs.Runs.{Space, Wrote}
-use Rattle.bits.proofs.Runs.{room, Putting, putting-as, putting-more, putting-ends}
-use Rattle.bits.proofs.Regrouped.{putting-both, putting-two, putting-starts-before}
+use Rattle.bits.proofs.Laws.{room, Putting, putting-as, putting-more, putting-ends, putting-both, putting-two, putting-starts-before}
 
 -- at the loop's head: all before byte `byte` is put; the first `skip` bits of that byte are held, and then come the numbers
 -- from i on

@@ -17,8 +17,7 @@ use Rattle.laws.proofs.Writable.{WriteSound, write-sound, file-fitting}
 use Rattle.laws.proofs.RoundTrip.{made-sound}
 use Rattle.bits.specs.Put.{Room, Put}
 use Rattle.bits.specs.Runs.{Space, Wrote}
-use Rattle.bits.proofs.WholeBytes.{fields-put}
-use Rattle.bits.proofs.Runs.{space-first, Putting, putting-starts, putting-run}
+use Rattle.bits.proofs.Laws.{fields-put, space-first, Putting, putting-starts, putting-run}
 use Rattle.putting.specs.Putting.{first_slots, last_slots, Ready}
 
 module _ {g : Group} {out : List ℕ} (r : Ready g out) where

@@ -16,7 +16,7 @@ use Rattle.putting.specs.Claims.{claims_are}
 use Rattle.putting.specs.declared.given.GivenClaims.{GivenClaims}
 use Rattle.putting.specs.Putting.{slots_of_risk}
 use Rattle.laws.proofs.Rests.{rest_more}
-use Rattle.bits.proofs.Runs.{Putting, putting-as, putting-run}
+use Rattle.bits.proofs.Laws.{Putting, putting-as, putting-run}
 use Rattle.putting.proofs.Claims.{length-are}
 
 -- at the loop's head: the risks from i on are left to be put, with the claims that are left, which are of the edition

@@ -1,5 +1,5 @@
 -- A run of claims put by pairs: each claim is one number of its bit and its dollars, and these are put as the
--- crate `pairs` says. Between two pairs fewer than eight bits are held.
+-- module `pairs` says. Between two pairs fewer than eight bits are held.
 use mathlib.Core.Path.{◌≡◌, refl, sym, ap, ap₂, ◌∙◌, subst}
 use mathlib.Core.List.{List, [], ◌∷◌}
 use Prim.Native.Nat.{ℕ, zero, suc, ◌+◌, ◌-◌, ◌*◌, ◌/◌, ◌%◌, ◌^◌, ◌≤◌, ◌<◌}
@@ -22,7 +22,7 @@ use Rattle.plan.specs.Field.{slot, slots, Fitting}
 use Rattle.plan.specs.Claim.{joined_width, dollars_width, slots_of_claims, claims_of}
 use Rattle.bits.specs.Put.{Room, WholeBytes, Put}
 use Rattle.bits.specs.Runs.{Wrote}
-use Rattle.bits.proofs.Runs.{Putting, putting-as}
+use Rattle.bits.proofs.Laws.{Putting, putting-as}
 use Rattle.putting.proofs.AsOne.{values, length-values, value-at, both-fit}
 use Rattle.putting.proofs.ByPairs.{Pairs, pair_fits, five-bytes, pairs-more, byte-room, pairs-byte, last-left, none_left}
 

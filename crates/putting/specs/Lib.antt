@@ -1,5 +1,4 @@
--- The edition of a run, and the claims that are given.
--- What putting a risk and the whole file asks for.
+-- The edition of a run, the claims that are given, and what putting a risk and the whole file asks for.
 pub mod Edition
 pub mod Claims
 pub mod Putting

@@ -17,12 +17,10 @@ use Rattle.laws.proofs.Bills.{bill-lt}
 use Rattle.laws.proofs.Demand3.{fitting-map}
 use Rattle.bits.specs.Put.{Put}
 use Rattle.bits.specs.Runs.{Wrote}
-use Rattle.bits.proofs.Puts.{put-none}
-use Rattle.bits.proofs.Runs.{Putting, putting-starts, putting-as, putting-more, putting-ends}
-use Rattle.bits.proofs.WholeBytes.{fields-put}
+use Rattle.bits.proofs.Laws.{put-none, Putting, putting-starts, putting-as, putting-more, putting-ends, fields-put}
 use Rattle.group.specs.Values.{losses_of}
 use Rattle.group.specs.declared.Losses as group
-use Rattle.steps.proofs.Bounds.{within}
+use Rattle.steps.proofs.Laws.{within}
 use Rattle.steps.specs.Terms.{terms_is}
 use Rattle.steps.specs.declared.bill.Terms.{Terms}
 use Rattle.rating.specs.Bills.{bills_of}

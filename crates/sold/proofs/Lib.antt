@@ -1,4 +1,3 @@
--- A law of numbers in two parts, which the 128 bits of a total have made needless.
--- Laws that the proofs of several functions cite.
+-- What the proofs of several functions cite; and a law of numbers in two parts, which the 128 bits of a total have made needless.
 mod Selling
-pub mod Pairs
+mod Pairs

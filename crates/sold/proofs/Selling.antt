@@ -29,7 +29,7 @@ use Rattle.group.specs.declared.Refusal.{Refusal}
 use Rattle.group.specs.declared.Header as group
 use Rattle.group.specs.declared.Losses as group_losses
 use Rattle.group.specs.declared.GroupLosses.{GroupLosses}
-use Rattle.group.proofs.Group as laws
+use Rattle.group.proofs.Laws as laws
 use Rattle.steps.specs.Basic.{ExcessBounds}
 use Rattle.sold.specs.Owed.{OwedBounds}
 use Rattle.sold.specs.PremiumPlans.{plan_is, SoldBy}

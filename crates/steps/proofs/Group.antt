@@ -12,7 +12,7 @@ use Rattle.laws.proofs.GroupSizes.{SA-le, SX-le, SS-le}
 use Rattle.group.specs.Values.{header_is, losses_is, GroupIs}
 use Rattle.group.specs.declared.Header.{Header}
 use Rattle.group.specs.declared.GroupLosses.{GroupLosses}
-use Rattle.group.proofs.Group.{risks}
+use Rattle.group.proofs.Laws.{risks}
 use Rattle.steps.specs.Basic.{BasicBounds}
 use Rattle.steps.specs.Marks.{MarksAre}
 use Rattle.steps.specs.declared.balance.MarkDollars.{MarkDollars}

@@ -1,4 +1,6 @@
--- Laws of a group's numbers and of sums over its losses, which the functions' proofs cite.
-pub mod Sums
-pub mod Group
-pub mod Bounds
+-- Laws of a group's numbers and of sums over its losses.
+mod Sums
+mod Group
+mod Bounds
+-- what crates above cite
+pub mod Laws

@@ -1,5 +1,5 @@
--- The code's marks as those of document 01, and the bounds within which their dollars are computed.
--- What the functions of the steps ask for and give, and the code's terms as document 01's.
+-- The code's marks as those of document 01, with the bounds within which their dollars are computed; what the functions of the steps ask
+-- for and give; and the code's terms.
 pub mod Measures
 pub mod Bounds
 pub mod Basic

@@ -1,4 +1,3 @@
--- What the functions of the matrix give.
--- What the functions of the 1965 table's charges ask for and give.
+-- What the functions of the matrix and of the charges ask for and give.
 pub mod Rows
 pub mod Charges

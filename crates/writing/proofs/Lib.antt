@@ -1,6 +1,5 @@
--- The laws of what is asked of many values, and of the loop over risks.
--- The file's length, and Write's questions as the code asks them.
-pub mod Fits
-pub mod Opening
-pub mod Lengths
-pub mod Asked
+-- Laws of what is asked of many values, of the loop over risks, of the file's length, and of Write's questions as the code asks them.
+mod Fits
+mod Opening
+mod Lengths
+mod Asked

@@ -1,4 +1,3 @@
--- What is asked of given bits.
--- Write's answer as document 01's.
+-- What is asked of given bits, and Write's answer as document 01's.
 pub mod Fitting
 pub mod Writer

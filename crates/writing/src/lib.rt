@@ -1,4 +1,4 @@
-// Write: given values as the bytes of a group file. What it asks of them, questions 15 and 19, is the crate `fitting`. All questions
+// Write: given values as the bytes of a group file. What it asks of them, questions 15 and 19, is `fitting`. All questions
 // are decided before the first byte is stored.
 #![tactic(auto)]
 

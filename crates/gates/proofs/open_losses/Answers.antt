@@ -4,7 +4,7 @@ use Rattle.plan.specs.Losses.{losses_in}
 use Rattle.plan.specs.Questions.{ask, first_no, or_else, file_questions, question10}
 use Rattle.laws.proofs.Questions.{after-gate}
 use Rattle.group.specs.Refusals.{verdict_is}
-use Rattle.group.proofs.Verdicts.{verdict-and}
+use Rattle.group.proofs.Laws.{verdict-and}
 use Rattle.gates.proofs.open_losses.Goals as goal
 
 pub returns : goal.returns

@@ -12,7 +12,7 @@ use Rattle.laws.proofs.FileSizes.{group-bounds}
 use Rattle.group.specs.Refusals.{verdict_is, answer_is}
 use Rattle.group.specs.Values.{header_is, losses_is, GroupIs}
 use Rattle.group.specs.declared.Refusal.{Refusal}
-use Rattle.group.proofs.Group.{group_is}
+use Rattle.group.proofs.Laws.{group_is}
 use Rattle.groupfile.specs.Opening.{OpenedIs}
 use Rattle.groupfile.specs.declared.opening.Opened.{Opened}
 use Rattle.steps.specs.Terms.{terms_is}

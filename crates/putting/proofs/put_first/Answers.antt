@@ -3,7 +3,7 @@
 use mathlib.Core.Path.{subst}
 use Prim.Native.Nat.{ℕ}
 use Rattle.bits.specs.Runs.{Wrote}
-use Rattle.bits.proofs.Runs.{wrote_none, wrote-more}
+use Rattle.bits.proofs.Laws.{wrote_none, wrote-more}
 use Rattle.group.specs.Values.{header_is}
 use Rattle.putting.specs.Putting.{first_slots}
 use Rattle.putting.proofs.put_first.Goals as goal

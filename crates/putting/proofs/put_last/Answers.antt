@@ -1,6 +1,6 @@
 -- Each field is put at the place that the put before it hands on. Alike in put_first, of other fields: the bytes between two puts are
 -- in no goal, and no search was found that finds them, so each put is named.
-use Rattle.bits.proofs.Runs.{wrote_none, wrote-more}
+use Rattle.bits.proofs.Laws.{wrote_none, wrote-more}
 use Rattle.putting.proofs.put_last.Goals as goal
 
 pub returns : goal.returns

@@ -1,5 +1,5 @@
 -- The count's field, and then the claims' fields.
-use Rattle.bits.proofs.Runs.{wrote-more}
+use Rattle.bits.proofs.Laws.{wrote-more}
 use Rattle.putting.proofs.put_risk.Goals as goal
 
 pub returns : goal.returns

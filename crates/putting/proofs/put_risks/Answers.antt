@@ -4,7 +4,7 @@ use mathlib.Core.List.{List}
 use Prim.Native.Nat.{ℕ}
 use lib.ListN.{drop_of_length-le}
 use Rattle.plan.specs.Risk.{slots_of_risks}
-use Rattle.bits.proofs.Runs.{space-first, putting-as, putting-ends}
+use Rattle.bits.proofs.Laws.{space-first, putting-as, putting-ends}
 use Rattle.group.specs.Edition.{edition_number}
 use Rattle.putting.specs.Claims.{claims_are}
 use Rattle.putting.proofs.Risks.{next, goes_on}

@@ -3,7 +3,7 @@ use Rattle.std.proofs.Common.{◌≡◌, ◌<◌, refl, sym, ap, ◌∙◌, arit
 use Rattle.plan.specs.Claim as plan
 use Rattle.plan.specs.Claim.{dollars}
 use Rattle.laws.proofs.Claims.{joined-le, past_more}
-use Rattle.claims.proofs.Reach.{next-reach}
+use Rattle.claims.proofs.Laws.{next-reach}
 use Rattle.reading.specs.Reading.{bit}
 use Rattle.reading.proofs.Storing.{copying-starts, parts-more, parts-all}
 use Rattle.reading.proofs.read_claims.Goals as goal

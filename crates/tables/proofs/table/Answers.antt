@@ -9,8 +9,8 @@ use Rattle.plan.specs.Table.{charge_sum, savings_sum}
 use Rattle.plan.specs.Calls.{given}
 use Rattle.group.specs.Refusals.{verdict_is}
 use Rattle.group.specs.Values.{losses_is}
-use Rattle.group.proofs.Group.{risks}
-use Rattle.steps.proofs.Sums.{of-slice}
+use Rattle.group.proofs.Laws.{risks}
+use Rattle.steps.proofs.Laws.{of-slice}
 use Rattle.groupfile.specs.Opening.{OpenedIs}
 use Rattle.groupfile.specs.declared.opening.Opened.{Opened}
 use Rattle.tables.proofs.Tabling.{AtHand, tabled, risks-few, entry-fits, half-fits, charge-sum, savings-sum}

@@ -7,7 +7,7 @@ use Rattle.plan.specs.Risk.{count_width, count_at, first_claim}
 use Rattle.laws.proofs.Claims.{joined-width-le, joined_at}
 use Rattle.laws.proofs.Risks.{first-claim}
 use Rattle.bits.specs.Take.{Ahead}
-use Rattle.bits.proofs.Fronts.{front-is, front-part}
+use Rattle.bits.proofs.Laws.{front-is, front-part}
 use Rattle.claims.proofs.Opening.{joined-opens}
 use Rattle.claims.proofs.counts.head_at.Goals as goal
 

@@ -1,6 +1,6 @@
 -- Each number is joined to what stands before it: 8 bits and twice 21 at most.
 use Rattle.std.proofs.Common.{◌+◌, ◌^◌, ◌<◌, arith}
-use Rattle.bits.proofs.Shifts.{joins, joined-lt}
+use Rattle.bits.proofs.Laws.{joins, joined-lt}
 use Rattle.putting.proofs.pairs.pair_after.Goals as goal
 
 pub join-requires : goal.join-requires

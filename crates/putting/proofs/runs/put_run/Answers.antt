@@ -7,7 +7,7 @@ use Rattle.std.proofs.lemmas.List.{length_push}
 use Rattle.plan.specs.Field.{slot, slots}
 use Rattle.plan.specs.Claim.{joined_width, dollars_width}
 use Rattle.laws.proofs.Claims.{joined-width-le}
-use Rattle.bits.proofs.Runs.{room, Putting, putting-more, putting-ends}
+use Rattle.bits.proofs.Laws.{room, Putting, putting-more, putting-ends}
 use Rattle.putting.proofs.AsOne.{values, space-numbers, wrote-numbers}
 use Rattle.putting.proofs.ByPairs.{pairs_start}
 use Rattle.putting.proofs.Run.{Turn, turn, turns, first-fit, second-fit, pair-fit, five, Stored, stored, goes_on}

@@ -4,7 +4,7 @@ use Rattle.plan.specs.Losses.{SA}
 use Rattle.plan.specs.Marks.{mark_of, dollars, LG, LH}
 use Rattle.steps.specs.Measures.{mark_is}
 use Rattle.steps.specs.declared.marks.Mark.{Mark}
-use Rattle.group.proofs.Group.{risks}
+use Rattle.group.proofs.Laws.{risks}
 use Rattle.group.specs.Values.{losses_is, GroupIs}
 use Rattle.group.specs.declared.Header.{Header}
 use Rattle.group.specs.declared.GroupLosses.{GroupLosses}

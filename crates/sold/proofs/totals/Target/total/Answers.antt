@@ -3,7 +3,7 @@ use Rattle.std.proofs.Common.{◌≡◌, ◌∙◌, List, ℕ, map, sum, rules}
 use Rattle.plan.specs.SoldOnPremiums.{held_premium}
 use Rattle.group.specs.Values.{losses_of}
 use Rattle.group.specs.declared.Losses.{Losses}
-use Rattle.steps.proofs.Sums.{sum-limited}
+use Rattle.steps.proofs.Laws.{sum-limited}
 use Rattle.sold.specs.Totals.{plan_terms_is, total_by}
 use Rattle.sold.specs.declared.totals.PlanTerms.{PlanTerms}
 use Rattle.sold.proofs.totals.Target.total.Goals as goal
