@@ -1,102 +1,22 @@
 -- The cases of document 02, job 4.
 use mathlib.Core.Path.{◌≡◌, refl}
-use mathlib.Core.List.{List, [], ◌∷◌}
-use Prim.Native.Nat.{ℕ, ◌*◌}
+use mathlib.Core.List.{[], ◌∷◌}
+use Prim.Native.Nat.{◌*◌}
 use lib.IntN.{pos}
-use Rattle.plan.specs.Arithmetic.{nearest}
-use Rattle.plan.specs.Field.{bit, number, field, bytes_of}
-use Rattle.plan.specs.Header.{Header}
-use Rattle.plan.specs.Claim.{claim, claim_width, claim_at, past_claim, slots_of_claim}
-use Rattle.plan.specs.Risk.{count_at, first_claim}
-use Rattle.plan.specs.File.{Group}
-use Rattle.plan.specs.Accidents.{accidents_of}
 use Rattle.plan.specs.Losses.{limited_of}
 use Rattle.plan.specs.Marks.{LG, LH}
-use Rattle.plan.specs.Ratable.{SX, SS, ratable}
+use Rattle.plan.specs.Ratable.{ratable, SX, SS}
+use Rattle.plan.specs.Calls.{given, refused, rated_of, rate, table, read, write}
+use Rattle.plan.specs.Arithmetic.{nearest}
+use Rattle.plan.specs.Field.{bit, number, field, bytes_of}
+use Rattle.plan.specs.Claim.{claim_width, claim_at, past_claim, slots_of_claim, claim}
+use Rattle.plan.specs.Risk.{count_at, first_claim}
 use Rattle.plan.specs.Basic.{basic_premium, excess_charge}
 use Rattle.plan.specs.Premium.{bill_rounding, bill_with}
 use Rattle.plan.specs.Demand3.{total_with, taxed_expenses_and_losses}
-use Rattle.plan.specs.Calls.{Answer, refused, given, Rated, rated_of, rate, table, read, write}
 use Rattle.plan.specs.Comparison.{compare}
-use Rattle.plan.proofs.Groups.{header, group, Written, four, four_file, rates, totals, limiteds}
-use Rattle.plan.proofs.GuaranteedCases.{stock}
-
--- a group of edition 2, with a bit for each claim
-abbrev pub joining : Header → List ℕ → List ℕ → List ℕ → Group
-joining h counts claims bits = record { edition = 2; header = h; counts = counts; claims = claims; joined = bits }
-
--- the group of four in edition 2, no bit set
-abbrev pub four_joining : Group
-four_joining = joining four.header four.counts four.claims (0 ∷ 0 ∷ 0 ∷ 0 ∷ 0 ∷ 0 ∷ [])
-
-abbrev pub four_joining_file : List ℕ
-four_joining_file =
-    32 ∷ 19 ∷ 136 ∷ 0 ∷ 156 ∷ 64 ∷ 1 ∷ 244 ∷ 34 ∷ 98 ∷ 144 ∷ 64 ∷ 225 ∷ 1 ∷ 144 ∷ 8 ∷ 0 ∷ 32 ∷ 5 ∷ 220 ∷ 0 ∷ 15 ∷ 160
-    ∷ 16 ∷ 13 ∷ 172 ∷ 6 ∷ 1 ∷ 56 ∷ 128 ∷ 11 ∷ 184 ∷ 0 ∷ 31 ∷ 64 ∷ []
-
--- 'A scaffold fell on two men': two risks, the first with 3,000 and 4,000, the other without claims; P 10,000, e 2,000, c 1.100,
--- T 1.0000, limit 5,000, loss ratio marks 0.900 and 0.200
-abbrev pub scaffold_header : Header
-scaffold_header = header 5000 10000 2000 1100 10000 0 900 200
-
-abbrev pub scaffold : List ℕ → Group
-scaffold bits = joining scaffold_header (2 ∷ 0 ∷ []) (3000 ∷ 4000 ∷ []) bits
-
--- in one accident
-abbrev pub scaffold_file : List ℕ
-scaffold_file =
-    32 ∷ 19 ∷ 136 ∷ 0 ∷ 156 ∷ 64 ∷ 1 ∷ 244 ∷ 34 ∷ 98 ∷ 113 ∷ 0 ∷ 225 ∷ 1 ∷ 144 ∷ 4 ∷ 8 ∷ 1 ∷ 119 ∷ 16 ∷ 15 ∷ 160 ∷ 0
-    ∷ []
-
--- in two
-abbrev pub apart_file : List ℕ
-apart_file =
-    32 ∷ 19 ∷ 136 ∷ 0 ∷ 156 ∷ 64 ∷ 1 ∷ 244 ∷ 34 ∷ 98 ∷ 113 ∷ 0 ∷ 225 ∷ 1 ∷ 144 ∷ 4 ∷ 8 ∷ 1 ∷ 119 ∷ 0 ∷ 15 ∷ 160 ∷ 0
-    ∷ []
-
--- in edition 1, where each claim is its own accident
-abbrev pub single_file : List ℕ
-single_file =
-    16 ∷ 19 ∷ 136 ∷ 0 ∷ 156 ∷ 64 ∷ 1 ∷ 244 ∷ 34 ∷ 98 ∷ 113 ∷ 0 ∷ 225 ∷ 1 ∷ 144 ∷ 4 ∷ 8 ∷ 2 ∷ 238 ∷ 0 ∷ 62 ∷ 128 ∷ 0
-    ∷ []
-
--- four risks: both claims in one accident, in two, in one with 1,000 after it, and (1,000, 4,000 joined), 3,000
-abbrev pub accidents : Group
-accidents =
-    joining scaffold_header (2 ∷ 2 ∷ 3 ∷ 3 ∷ []) (3000 ∷ 4000 ∷ 3000 ∷ 4000 ∷ 3000 ∷ 4000 ∷ 1000 ∷ 1000 ∷ 4000 ∷ 3000 ∷ [])
-    (0 ∷ 1 ∷ 0 ∷ 0 ∷ 0 ∷ 1 ∷ 0 ∷ 0 ∷ 1 ∷ 0 ∷ [])
-
-abbrev pub accidents_file : List ℕ
-accidents_file =
-    32 ∷ 19 ∷ 136 ∷ 0 ∷ 156 ∷ 64 ∷ 1 ∷ 244 ∷ 34 ∷ 98 ∷ 113 ∷ 0 ∷ 225 ∷ 1 ∷ 144 ∷ 8 ∷ 8 ∷ 1 ∷ 119 ∷ 16 ∷ 15 ∷ 160 ∷ 8
-    ∷ 1 ∷ 119 ∷ 0 ∷ 15 ∷ 160 ∷ 12 ∷ 1 ∷ 119 ∷ 16 ∷ 15 ∷ 160 ∷ 0 ∷ 31 ∷ 64 ∷ 96 ∷ 3 ∷ 232 ∷ 128 ∷ 125 ∷ 0 ∷ 2 ∷ 238 ∷ 0
-    ∷ []
-
--- two risks of one claim, the second with its bit set, as if it belonged to the first risk's accident. The same with a fill bit set
-abbrev pub leading : Group
-leading = joining scaffold_header (1 ∷ 1 ∷ []) (3000 ∷ 4000 ∷ []) (0 ∷ 1 ∷ [])
-
-abbrev pub leading_file : List ℕ
-leading_file =
-    32 ∷ 19 ∷ 136 ∷ 0 ∷ 156 ∷ 64 ∷ 1 ∷ 244 ∷ 34 ∷ 98 ∷ 113 ∷ 0 ∷ 225 ∷ 1 ∷ 144 ∷ 4 ∷ 4 ∷ 1 ∷ 119 ∷ 0 ∷ 192 ∷ 62 ∷ 128
-    ∷ []
-
-abbrev pub leading_filled_file : List ℕ
-leading_filled_file =
-    32 ∷ 19 ∷ 136 ∷ 0 ∷ 156 ∷ 64 ∷ 1 ∷ 244 ∷ 34 ∷ 98 ∷ 113 ∷ 0 ∷ 225 ∷ 1 ∷ 144 ∷ 4 ∷ 4 ∷ 1 ∷ 119 ∷ 0 ∷ 192 ∷ 62 ∷ 131
-    ∷ []
-
--- one claim of 0 with its bit set, and none
-abbrev pub leading_nothing : Group
-leading_nothing = joining scaffold_header (1 ∷ 0 ∷ []) (0 ∷ []) (1 ∷ [])
-
-abbrev pub leading_nothing_file : List ℕ
-leading_nothing_file =
-    32 ∷ 19 ∷ 136 ∷ 0 ∷ 156 ∷ 64 ∷ 1 ∷ 244 ∷ 34 ∷ 98 ∷ 113 ∷ 0 ∷ 225 ∷ 1 ∷ 144 ∷ 4 ∷ 6 ∷ 0 ∷ 0 ∷ 0 ∷ 0 ∷ []
-
--- what is said of the group of four, of either edition
-abbrev pub four_rated : Answer Rated
-four_rated = rates 4 (pos 6700000) 3300000 33600 (4935 ∷ 7245 ∷ 8400 ∷ 13020 ∷ [])
+use Rattle.plan.specs.Accidents.{accidents_of}
+use Rattle.plan.proofs.Groups.{header, group, Written, four_file, rates, totals, limiteds, stock, four_joining, four_joining_file, scaffold_header, scaffold, scaffold_file, apart_file, single_file, accidents, accidents_file, leading, leading_file, leading_filled_file, leading_nothing, leading_nothing_file, four_rated}
 
 abbrev pub AccidentsCase : Type 0
 AccidentsCase =

@@ -1,13 +1,10 @@
 -- Document 02, job 5, on columns .36, .44 and .52 at r 0, 0.50, 1.00, 2.00 and 5.00: the double by its bits, and its thousandths
 use mathlib.Core.Path.{◌≡◌, refl}
-use Prim.Native.Nat.{ℕ, ◌*◌, ◌-◌, max}
 use lib.IntN.{pos}
-use Rattle.plan.specs.Calls.{Answer, refused, given}
-use lib.Ieee.{binary64, of_bits, of_int, add, mul, div, le}
-use Rattle.plan.specs.Charge.{Charged, charge_double, greatest, thousandths, charge1965, exact_denominator}
-
-abbrev pub charged : ℕ → ℕ → Answer Charged
-charged bits n = given (record { unrounded = of_bits binary64 bits; in_thousandths = n })
+use Rattle.plan.specs.Calls.{refused}
+use lib.Ieee.{of_bits, of_int, add, mul, div, le}
+use Rattle.plan.specs.Charge.{charge_double, greatest, thousandths, charge1965, exact_denominator}
+use Rattle.plan.proofs.Groups.{charged}
 
 abbrev pub ChargeCase : Type 0
 ChargeCase =

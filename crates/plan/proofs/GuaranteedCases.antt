@@ -1,43 +1,19 @@
 -- The cases of document 02, job 1.
 use mathlib.Core.Path.{◌≡◌, refl}
-use mathlib.Core.List.{List, [], ◌∷◌}
-use Prim.Native.Nat.{ℕ}
-use lib.IntN.{pos, negsuc}
+use mathlib.Core.List.{[], ◌∷◌}
+use Rattle.plan.specs.Losses.{limited_of}
+use Rattle.plan.specs.Marks.{LG, LH}
+use Rattle.plan.specs.Ratable.{ratable, SX, SS}
+use Rattle.plan.specs.Calls.{refused, rated_of}
 use Rattle.plan.specs.Arithmetic.{nearest}
 use Rattle.plan.specs.Field.{bit, number, field}
 use Rattle.plan.specs.Claim.{claim_width, claim_at, past_claim}
 use Rattle.plan.specs.Risk.{count_at, first_claim}
-use Rattle.plan.specs.Losses.{limited_of}
-use Rattle.plan.specs.Marks.{LG, LH}
-use Rattle.plan.specs.Ratable.{SX, SS, ratable}
 use Rattle.plan.specs.Basic.{basic_premium, excess_charge}
 use Rattle.plan.specs.Premium.{bill_rounding, bill_with}
-use Rattle.plan.specs.Calls.{Answer, refused, given, rated_of, rate}
-use Rattle.plan.specs.Discount.{Layer, discount, guaranteed_cost}
-use Rattle.plan.specs.Comparison.{Comparison, comparison_of, compare}
-use Rattle.plan.proofs.Groups.{four_file, tens_file2000}
-
-abbrev pub layer : ℕ → ℕ → Layer
-layer w r = record { width = w; rate = r }
-
--- 'The 1986 stock schedule of source document 001 (5,000 at 0; 95,000 at 10.9; 400,000 at 12.6; rest 14.4)', with a width of the last
--- row, which is not looked at
-abbrev pub stock : ℕ → List Layer
-stock w = layer 5000 0 ∷ layer 95000 109 ∷ layer 400000 126 ∷ layer w 144 ∷ []
-
--- the group of four under the stock schedule: P 10,000, so 5,000 × 0.109 = 545
-abbrev pub four_beside : Answer Comparison
-four_beside =
-    given (record {
-      rated =
-          record { risks = 4; basic = pos 6700000; excess = 3300000; billed = 33600; premiums = 4935 ∷ 7245 ∷ 8400 ∷ 13020 ∷ [] };
-      discount = 545;
-      guaranteed = 9455;
-      -- −4,520, −2,210, −1,055 and 3,565
-      differences = negsuc 4519 ∷ negsuc 2209 ∷ negsuc 1054 ∷ pos 3565 ∷ [];
-      -- −4,220
-      difference = negsuc 4219;
-    })
+use Rattle.plan.specs.Discount.{discount, guaranteed_cost}
+use Rattle.plan.specs.Comparison.{comparison_of, compare}
+use Rattle.plan.proofs.Groups.{four_file, tens_file2000, layer, stock, four_beside}
 
 abbrev pub GuaranteedCase : Type 0
 GuaranteedCase =

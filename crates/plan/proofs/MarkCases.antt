@@ -1,50 +1,19 @@
 -- The cases of document 02, job 2.
 use mathlib.Core.Path.{◌≡◌, refl}
-use mathlib.Core.List.{List, [], ◌∷◌}
-use Prim.Native.Nat.{ℕ}
+use mathlib.Core.List.{[], ◌∷◌}
 use lib.IntN.{pos}
+use Rattle.plan.specs.Losses.{limited_of}
+use Rattle.plan.specs.Marks.{LG, LH}
+use Rattle.plan.specs.Ratable.{ratable, SX, SS}
+use Rattle.plan.specs.Calls.{given, refused, rated_of, rate, table, read, write}
 use Rattle.plan.specs.Arithmetic.{nearest}
 use Rattle.plan.specs.Field.{bit, number, field, bytes_of}
 use Rattle.plan.specs.Claim.{claim_width, claim_at, past_claim, slots_of_claim}
 use Rattle.plan.specs.Risk.{count_at, first_claim}
-use Rattle.plan.specs.File.{Group}
-use Rattle.plan.specs.Losses.{limited_of}
-use Rattle.plan.specs.Marks.{LG, LH}
-use Rattle.plan.specs.Ratable.{SX, SS, ratable}
 use Rattle.plan.specs.Basic.{basic_premium, excess_charge}
 use Rattle.plan.specs.Premium.{bill_rounding, bill_with}
-use Rattle.plan.specs.Calls.{refused, given, rated_of, rate, table, read, write}
 use Rattle.plan.specs.Comparison.{compare}
-use Rattle.plan.proofs.Groups.{header, group, Written, rates, lg, lh}
-use Rattle.plan.proofs.GuaranteedCases.{stock}
-
--- one risk with one claim of 1 and c 1.000, with P, the mark kind and the two marks
-abbrev pub marked : ℕ → ℕ → ℕ → ℕ → Group
-marked p k g h = group (header 0 p 0 1000 10000 k g h) (1 ∷ []) (1 ∷ [])
-
--- document 01's 'Loss ratio marks 0.900 and 0.950, c 1.000', with P
-abbrev pub crossing : ℕ → Group
-crossing p = marked p 0 900 950
-
-abbrev pub crossing_file1 : List ℕ
-crossing_file1 = 16 ∷ 0 ∷ 0 ∷ 0 ∷ 0 ∷ 4 ∷ 0 ∷ 0 ∷ 31 ∷ 66 ∷ 113 ∷ 0 ∷ 225 ∷ 7 ∷ 108 ∷ 2 ∷ 4 ∷ 0 ∷ 0 ∷ 64 ∷ []
-
-abbrev pub crossing_file1000 : List ℕ
-crossing_file1000 = 16 ∷ 0 ∷ 0 ∷ 0 ∷ 15 ∷ 160 ∷ 0 ∷ 0 ∷ 31 ∷ 66 ∷ 113 ∷ 0 ∷ 225 ∷ 7 ∷ 108 ∷ 2 ∷ 4 ∷ 0 ∷ 0 ∷ 64 ∷ []
-
--- P 1 with entry ratio marks 0.900 and 0.950, and with loss ratio marks 0.950 and 0.950
-abbrev pub entry_file : List ℕ
-entry_file = 16 ∷ 0 ∷ 0 ∷ 0 ∷ 0 ∷ 4 ∷ 0 ∷ 0 ∷ 31 ∷ 66 ∷ 113 ∷ 8 ∷ 225 ∷ 7 ∷ 108 ∷ 2 ∷ 4 ∷ 0 ∷ 0 ∷ 64 ∷ []
-
-abbrev pub equal_file : List ℕ
-equal_file = 16 ∷ 0 ∷ 0 ∷ 0 ∷ 0 ∷ 4 ∷ 0 ∷ 0 ∷ 31 ∷ 66 ∷ 113 ∷ 0 ∷ 237 ∷ 135 ∷ 108 ∷ 2 ∷ 4 ∷ 0 ∷ 0 ∷ 64 ∷ []
-
--- P 1 with loss ratio marks 0.900 and 6.001, and with 0.900 and 0.950 and no risks
-abbrev pub above_file : List ℕ
-above_file = 16 ∷ 0 ∷ 0 ∷ 0 ∷ 0 ∷ 4 ∷ 0 ∷ 0 ∷ 31 ∷ 66 ∷ 113 ∷ 0 ∷ 225 ∷ 46 ∷ 226 ∷ 2 ∷ 4 ∷ 0 ∷ 0 ∷ 64 ∷ []
-
-abbrev pub no_risks_file : List ℕ
-no_risks_file = 16 ∷ 0 ∷ 0 ∷ 0 ∷ 0 ∷ 4 ∷ 0 ∷ 0 ∷ 31 ∷ 66 ∷ 113 ∷ 0 ∷ 225 ∷ 7 ∷ 108 ∷ 0 ∷ []
+use Rattle.plan.proofs.Groups.{group, Written, rates, lg, lh, stock, marked, crossing, crossing_file1, crossing_file1000, entry_file, equal_file, above_file, no_risks_file}
 
 abbrev pub MarksCase : Type 0
 MarksCase =

@@ -1,37 +1,20 @@
 -- The cases of document 02, job 7.
 use mathlib.Core.Path.{◌≡◌, refl}
-use mathlib.Core.List.{List, [], ◌∷◌, map}
-use Prim.Native.Nat.{ℕ}
+use mathlib.Core.List.{[], ◌∷◌, map}
 use lib.IntN.{pos}
+use Rattle.plan.specs.Header.{header_of}
+use Rattle.plan.specs.Losses.{losses_in, limited_of}
+use Rattle.plan.specs.Marks.{LG, LH}
+use Rattle.plan.specs.Ratable.{ratable, SX, SS}
+use Rattle.plan.specs.Calls.{refused, rated_of, rate}
 use Rattle.plan.specs.Arithmetic.{nearest}
 use Rattle.plan.specs.Field.{bit, number, field, bytes_of}
-use Rattle.plan.specs.Header.{header_of}
 use Rattle.plan.specs.Claim.{claim_width, claim_at, past_claim, slots_of_claim}
 use Rattle.plan.specs.Risk.{count_at, first_claim}
-use Rattle.plan.specs.Losses.{limited_of, losses_in}
-use Rattle.plan.specs.Marks.{LG, LH}
-use Rattle.plan.specs.Ratable.{SX, SS, ratable}
 use Rattle.plan.specs.Basic.{basic_premium, excess_charge}
 use Rattle.plan.specs.Premium.{bill_rounding, bill_with}
-use Rattle.plan.specs.Calls.{refused, rated_of, rate}
 use Rattle.plan.specs.Comparison.{compare}
-use Rattle.plan.proofs.Groups.{header, group, Written, rates, lg, lh}
-use Rattle.plan.proofs.GuaranteedCases.{stock}
-use Rattle.plan.proofs.MarkCases.{marked}
-
--- P 1 with entry ratio marks 0.500 and 0.500, and with 1.000 and 0.999; P 1,000 with loss ratio marks 0.900 and 0.899, and with 0.900 and
--- 0.950 and e 2,000
-abbrev pub half_file : List ℕ
-half_file = 16 ∷ 0 ∷ 0 ∷ 0 ∷ 0 ∷ 4 ∷ 0 ∷ 0 ∷ 31 ∷ 66 ∷ 113 ∷ 8 ∷ 125 ∷ 3 ∷ 232 ∷ 2 ∷ 4 ∷ 0 ∷ 0 ∷ 64 ∷ []
-
-abbrev pub next_entry_file : List ℕ
-next_entry_file = 16 ∷ 0 ∷ 0 ∷ 0 ∷ 0 ∷ 4 ∷ 0 ∷ 0 ∷ 31 ∷ 66 ∷ 113 ∷ 8 ∷ 250 ∷ 7 ∷ 206 ∷ 2 ∷ 4 ∷ 0 ∷ 0 ∷ 64 ∷ []
-
-abbrev pub next_loss_file : List ℕ
-next_loss_file = 16 ∷ 0 ∷ 0 ∷ 0 ∷ 15 ∷ 160 ∷ 0 ∷ 0 ∷ 31 ∷ 66 ∷ 113 ∷ 0 ∷ 225 ∷ 7 ∷ 6 ∷ 2 ∷ 4 ∷ 0 ∷ 0 ∷ 64 ∷ []
-
-abbrev pub expense_file : List ℕ
-expense_file = 16 ∷ 0 ∷ 0 ∷ 0 ∷ 15 ∷ 160 ∷ 1 ∷ 244 ∷ 31 ∷ 66 ∷ 113 ∷ 0 ∷ 225 ∷ 7 ∷ 108 ∷ 2 ∷ 4 ∷ 0 ∷ 0 ∷ 64 ∷ []
+use Rattle.plan.proofs.Groups.{header, group, Written, rates, lg, lh, stock, marked, half_file, next_entry_file, next_loss_file, expense_file}
 
 abbrev pub OrderCase : Type 0
 OrderCase =

@@ -1,27 +1,19 @@
 -- The cases of document 02, job 6, on the group of four: M ÷ (1,000 × n) is 1,675, and the taxed expenses and losses are 33,600.
 use mathlib.Core.Path.{◌≡◌, refl}
-use Prim.Native.Nat.{ℕ, ◌+◌, ◌*◌, ◌-◌}
-use lib.IntN.{ℤ, pos, negsuc}
+use Prim.Native.Nat.{◌*◌, ◌-◌, ◌+◌}
+use lib.IntN.{pos, negsuc}
+use Rattle.plan.specs.Losses.{limited_of}
+use Rattle.plan.specs.Marks.{LG, LH}
+use Rattle.plan.specs.Ratable.{ratable, SX, SS}
+use Rattle.plan.specs.Calls.{refused}
 use Rattle.plan.specs.Arithmetic.{nearest}
 use Rattle.plan.specs.Field.{bit, number, field}
 use Rattle.plan.specs.Claim.{claim_width, claim_at, past_claim}
 use Rattle.plan.specs.Risk.{count_at, first_claim}
-use Rattle.plan.specs.Losses.{limited_of}
-use Rattle.plan.specs.Marks.{LG, LH}
-use Rattle.plan.specs.Ratable.{SX, SS, ratable}
 use Rattle.plan.specs.Basic.{basic_premium, excess_charge}
 use Rattle.plan.specs.Demand3.{taxed_expenses_and_losses}
-use Rattle.plan.specs.Calls.{Answer, refused, given}
-use Rattle.plan.specs.SoldOnPremiums.{Plan, premiums_at, halvings, plan_for}
-use Rattle.plan.proofs.Groups.{four_file, tens_file2000}
-use Rattle.plan.proofs.MarkCases.{crossing_file1}
-
-abbrev pub plans : ℕ → ℕ → ℤ → Answer Plan
-plans made best short = given (record { made = made; best = best; short = short })
-
--- G where no maximum is in effect
-abbrev pub unbounded : ℕ
-unbounded = 4294967295
+use Rattle.plan.specs.SoldOnPremiums.{premiums_at, halvings, plan_for}
+use Rattle.plan.proofs.Groups.{four_file, tens_file2000, crossing_file1, plans, unbounded}
 
 abbrev pub PlanCase : Type 0
 PlanCase =

@@ -1,16 +1,11 @@
 -- The cases of document 02, job 3.
 use mathlib.Core.Path.{◌≡◌, refl}
-use mathlib.Core.List.{List, [], ◌∷◌, map}
-use Prim.Native.Nat.{ℕ}
+use mathlib.Core.List.{[], ◌∷◌, map}
+use Rattle.plan.specs.Losses.{losses_in, limited_of, SL, SA, losses_so_far}
 use Rattle.plan.specs.Field.{bit, number, field}
 use Rattle.plan.specs.Claim.{claim_width, claim_at, past_claim}
 use Rattle.plan.specs.Risk.{count_at, first_claim}
-use Rattle.plan.specs.Losses.{limited_of, SL, SA, losses_in, losses_so_far}
-use Rattle.plan.proofs.Groups.{four_file}
-
--- the numbers of risks so far of the group of four
-abbrev pub so_far : List ℕ
-so_far = 0 ∷ 1 ∷ 2 ∷ 3 ∷ 4 ∷ []
+use Rattle.plan.proofs.Groups.{four_file, so_far}
 
 -- 'after each risk it is the sum of A so far', and the same of L: risk 1 has no claims, and after risk 4 they are SA and SL
 abbrev pub SumsCase : Type 0
