@@ -1,7 +1,7 @@
 -- Document 01's cases.
 use mathlib.Core.Path.{◌≡◌, refl}
 use mathlib.Core.List.{[], ◌∷◌}
-use Prim.Native.Nat.{◌*◌}
+use Prim.Native.Nat.{◌*◌, ◌+◌}
 use lib.IntN.{pos}
 use Rattle.plan.specs.Losses.{limited_of}
 use Rattle.plan.specs.Marks.{LG, LH}
@@ -14,8 +14,10 @@ use Rattle.plan.specs.Claim.{claim_width, claim_at, past_claim, slots_of_claim}
 use Rattle.plan.specs.Risk.{count_at, first_claim}
 use Rattle.plan.specs.Basic.{basic_premium, excess_charge}
 use Rattle.plan.specs.Premium.{bill_rounding, bill_with}
-use Rattle.plan.specs.Demand3.{total_with, taxed_expenses_and_losses}
-use Rattle.plan.proofs.Groups.{Written, four, four_file, thirds, thirds_file, halves, halves_file, tens, tens_file2000, tens_file1000, limits, limits_file, rates, tables, totals, limiteds, ratables, lg}
+use Rattle.plan.specs.Demand3.{Demand3, total_with, taxed_expenses_and_losses}
+use Rattle.plan.proofs.Groups.{Written, four, four_file, thirds, thirds_file, halves, halves_file, tens, tens_file2000, tens_file1000, limits, limits_file, rates, tables, totals, limiteds, ratables, lg, four_premiums}
+use lib.Signed.{◌≤ℤ◌}
+use lib.ListN.{replicate}
 
 -- the group of four, as `retro` prints it: 'group 4 6700000 3300000 33600', then risk number, L, A, K and premium
 abbrev pub FourCase : Type 0
@@ -78,3 +80,16 @@ pub other_cases : OtherCases
 unfolding bytes_of number bit field claim_width claim_at past_claim slots_of_claim count_at first_claim limited_of LG LH SX SS ratable basic_premium excess_charge nearest bill_rounding bill_with rated_of rate total_with taxed_expenses_and_losses
 other_cases =
     (refl, refl, refl, refl, refl, refl, refl, refl, refl, refl, refl, refl, refl, refl, refl, refl)
+
+-- what demand 3 says of the group of four, and how near the bills are where each is half a dollar above what is owed, and where none is
+-- billed
+abbrev pub DemandCase : Type 0
+DemandCase =
+    (Demand3 four_file 6700000 3300000 33600 four_premiums
+    → (pos (10000000 * 4 * 33600) ≡ pos (10000000 * 4 * 33600)) × (33600 ≡ 4935 + 7245 + 8400 + 13020))
+    × (Demand3 halves_file 1000 0 2 (0 ∷ 0 ∷ 0 ∷ 1 ∷ 0 ∷ 0 ∷ 0 ∷ 1 ∷ []) → pos 40000000 ≤ℤ pos 40000000)
+    × (Demand3 thirds_file 1000 0 0 (replicate 12 0) → pos 30000000 ≤ℤ pos 45000000)
+
+pub demand_case : DemandCase
+unfolding number bit field claim_width claim_at past_claim count_at first_claim limited_of LG LH SX SS ratable total_with taxed_expenses_and_losses
+demand_case = (λ b. (b.total, b.billed_is), λ b. b.not_above, λ b. b.not_below)

@@ -2,9 +2,13 @@
 use mathlib.Core.Path.{◌≡◌, refl}
 use lib.IntN.{pos}
 use Rattle.plan.specs.Calls.{refused}
-use lib.Ieee.{of_bits, of_int, add, mul, div, le}
-use Rattle.plan.specs.Charge.{charge_double, greatest, thousandths, charge1965, exact_denominator}
+use lib.Ieee.{of_bits, of_int, add, mul, div, le, Float}
+use Rattle.plan.specs.Charge.{charge_double, greatest, thousandths, charge1965, exact_denominator, OnTable}
 use Rattle.plan.proofs.Groups.{charged}
+use mathlib.Core.Bool.{true}
+use lib.Dec.{leb}
+use Rattle.plan.specs.Matrix.{row_off, row_tolerance}
+use Prim.Native.Nat.{ℕ, ◌*◌}
 
 abbrev pub ChargeCase : Type 0
 ChargeCase =
@@ -70,3 +74,15 @@ charge_case = (
   refl,
   refl,
 )
+
+-- what is promised of a charge, at r 1.00; and how far rows are off 1 ÷ column − 2: .40 by nothing, .48 by more than 1 ten-millionth
+abbrev pub TenfoldCase : Type 0
+TenfoldCase =
+    ((x : Float) (n : ℕ) → OnTable 36 100 x n → n ≡ 360)
+    × (row_off 36 ≡ 44)
+    × (row_off 40 ≡ 0)
+    × (row_off 48 ≡ 64)
+    × (leb (row_off 48) (row_tolerance * 48) ≡ true)
+
+pub tenfold_case : TenfoldCase
+tenfold_case = (λ x n b. b.tenfold refl, refl, refl, refl, refl)

@@ -1,6 +1,6 @@
 -- The groups of the cases of documents 01 and 02, the bytes of their files, and what the cases say of a file.
 use mathlib.Core.Path.{◌≡◌}
-use mathlib.Core.List.{List, [], ◌∷◌, map}
+use mathlib.Core.List.{List, [], ◌∷◌, ◌++◌, map}
 use Prim.Native.Nat.{ℕ}
 use lib.IntN.{ℤ, pos, negsuc}
 use lib.ListN.{length, replicate}
@@ -11,7 +11,7 @@ use Rattle.plan.specs.Marks.{LG, LH}
 use Rattle.plan.specs.Ratable.{ratable}
 use Rattle.plan.specs.Calls.{Answer, given, Rated, Tabled}
 use Rattle.plan.specs.Discount.{Layer}
-use Rattle.plan.specs.Comparison.{Comparison}
+use Rattle.plan.specs.Comparison.{Comparison, NumbersGiven}
 use lib.Ieee.{binary64, of_bits}
 use Rattle.plan.specs.Charge.{Charged}
 use Rattle.plan.specs.SoldOnPremiums.{Plan}
@@ -50,6 +50,14 @@ abbrev pub four_file : List ℕ
 four_file =
     16 ∷ 19 ∷ 136 ∷ 0 ∷ 156 ∷ 64 ∷ 1 ∷ 244 ∷ 34 ∷ 98 ∷ 144 ∷ 64 ∷ 225 ∷ 1 ∷ 144 ∷ 8 ∷ 0
     ∷ 32 ∷ 11 ∷ 184 ∷ 0 ∷ 62 ∷ 128 ∷ 64 ∷ 109 ∷ 96 ∷ 48 ∷ 19 ∷ 136 ∷ 1 ∷ 119 ∷ 0 ∷ 7 ∷ 208 ∷ []
+
+-- with a byte of 1 added, which has bits after the last claim that are not 0
+abbrev pub longer_file : List ℕ
+longer_file = four_file ++ 1 ∷ []
+
+-- its four premiums in an output buffer: 4,935, 7,245, 8,400 and 13,020
+abbrev pub four_premiums : List ℕ
+four_premiums = 0 ∷ 0 ∷ 19 ∷ 71 ∷ 0 ∷ 0 ∷ 28 ∷ 77 ∷ 0 ∷ 0 ∷ 32 ∷ 208 ∷ 0 ∷ 0 ∷ 50 ∷ 220 ∷ []
 
 -- 'Three risks, one claim of 1 in all, e 0, c 1.000, T 1.0000, no limit, entry marks 1.000 and 0'
 abbrev pub thirds : Group
@@ -134,6 +142,22 @@ four_beside =
       -- −4,220
       difference = negsuc 4219;
     })
+
+-- the same as the call's numbers and its second buffer
+abbrev pub four_numbers : NumbersGiven
+four_numbers =
+    record {
+      risks = 4;
+      basic = 6700000;
+      excess = 3300000;
+      billed = 33600;
+      discount = 545;
+      guaranteed = 9455;
+      difference = negsuc 4219;
+    }
+
+abbrev pub four_differences : List ℤ
+four_differences = negsuc 4519 ∷ negsuc 2209 ∷ negsuc 1054 ∷ pos 3565 ∷ []
 
 -- ---- document 02, job 2
 

@@ -12,8 +12,10 @@ use Rattle.plan.specs.Risk.{count_at, first_claim}
 use Rattle.plan.specs.Basic.{basic_premium, excess_charge}
 use Rattle.plan.specs.Premium.{bill_rounding, bill_with}
 use Rattle.plan.specs.Discount.{discount, guaranteed_cost}
-use Rattle.plan.specs.Comparison.{comparison_of, compare}
-use Rattle.plan.proofs.Groups.{four_file, tens_file2000, layer, stock, four_beside}
+use Rattle.plan.specs.Comparison.{comparison_of, compare, Beside}
+use Rattle.plan.proofs.Groups.{four_file, tens_file2000, layer, stock, four_beside, four_numbers, four_premiums, four_differences}
+use Prim.Native.Nat.{◌+◌}
+use lib.IntN.{negsuc}
 
 abbrev pub GuaranteedCase : Type 0
 GuaranteedCase =
@@ -42,3 +44,13 @@ GuaranteedCase =
 pub guaranteed_case : GuaranteedCase
 unfolding number bit field claim_width claim_at past_claim count_at first_claim limited_of LG LH SX SS ratable basic_premium excess_charge nearest bill_rounding bill_with rated_of discount guaranteed_cost comparison_of compare
 guaranteed_case = (refl, refl, refl, refl, refl, refl, refl, refl, refl, refl, refl, refl, refl, refl, refl)
+
+-- what the call promises beside Rate, of the group of four
+abbrev pub BesideCase : Type 0
+BesideCase =
+    Beside four_file four_numbers four_premiums four_differences
+    → (9455 + 545 ≡ 10000) × (negsuc 4219 ≡ negsuc 4219) × (four_differences ≡ four_differences)
+
+pub beside_case : BesideCase
+unfolding number bit field
+beside_case = λ b. (b.less_discount, b.total, b.differences_are)

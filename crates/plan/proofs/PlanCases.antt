@@ -1,7 +1,7 @@
 -- The cases of document 02, job 6, on the group of four: M ÷ (1,000 × n) is 1,675, and the taxed expenses and losses are 33,600.
 use mathlib.Core.Path.{◌≡◌, refl}
-use Prim.Native.Nat.{◌*◌, ◌-◌, ◌+◌}
-use lib.IntN.{pos, negsuc}
+use Prim.Native.Nat.{◌*◌, ◌-◌, ◌+◌, ◌<◌, ◌≤◌}
+use lib.IntN.{pos, negsuc, ◌-ℤ◌}
 use Rattle.plan.specs.Losses.{limited_of}
 use Rattle.plan.specs.Marks.{LG, LH}
 use Rattle.plan.specs.Ratable.{ratable, SX, SS}
@@ -12,7 +12,7 @@ use Rattle.plan.specs.Claim.{claim_width, claim_at, past_claim}
 use Rattle.plan.specs.Risk.{count_at, first_claim}
 use Rattle.plan.specs.Basic.{basic_premium, excess_charge}
 use Rattle.plan.specs.Demand3.{taxed_expenses_and_losses}
-use Rattle.plan.specs.SoldOnPremiums.{premiums_at, halvings, plan_for}
+use Rattle.plan.specs.SoldOnPremiums.{premiums_at, halvings, plan_for, Sold, Finished}
 use Rattle.plan.proofs.Groups.{four_file, tens_file2000, crossing_file1, plans, unbounded}
 
 abbrev pub PlanCase : Type 0
@@ -50,3 +50,14 @@ pub plan_case : PlanCase
 unfolding number bit field claim_width claim_at past_claim count_at first_claim limited_of LG LH SX SS ratable basic_premium excess_charge nearest taxed_expenses_and_losses premiums_at halvings plan_for
 plan_case =
     (refl, refl, refl, refl, refl, refl, refl, refl, refl, refl, refl, refl, refl, refl, refl, refl, refl, refl, refl)
+
+-- what is promised of a plan: Rate's own bounds, and the most that a finished plan is over by
+abbrev pub SoldCase : Type 0
+SoldCase =
+    (Sold four_file 13020 4935 20 20 1675 (pos 1674) → (pos 1675 -ℤ pos 1674 ≡ pos 1) × (10000000 * 4 * 33600 ≤ 10000000 * 4 * 33600))
+    × (Sold four_file unbounded 2500 20 20 1349 (pos 1348)
+    → Finished 1349 (pos 1348) → 0 < 1349 → 1344124000000 ≤ 1344000000000 + 168000000)
+
+pub sold_case : SoldCase
+unfolding number bit field claim_width claim_at past_claim count_at first_claim limited_of LG LH SX SS ratable basic_premium excess_charge nearest taxed_expenses_and_losses premiums_at halvings plan_for
+sold_case = (λ b. (b.distance_is, b.best_reaches), λ b. b.over_by)
