@@ -3,6 +3,7 @@
 //! A slice is handed over as a pointer and a count; Rust's borrows keep the parts that a call
 //! writes from overlapping.
 
+use crate::samples::Values;
 use crate::second_rater;
 
 /// The header values in file order, loss limit to minimum mark.
@@ -441,4 +442,39 @@ pub fn rated(file: &[u8], room: usize) -> Result<Rated, u32> {
 pub fn premiums_in(bytes: &[u8]) -> Vec<u32> {
     let premium = |four: &[u8]| u32::from_be_bytes([four[0], four[1], four[2], four[3]]);
     bytes.chunks(4).map(premium).collect()
+}
+
+/// Charge and savings that Table gives. A refusal leaves both as they were.
+pub fn tabled(file: &[u8], entry_ratio: u32) -> Result<(u32, u32), u32> {
+    let (mut charge, mut savings) = (9, 9);
+    let answer = table(file, entry_ratio, &mut charge, &mut savings);
+    if answer != 0 {
+        assert_eq!((charge, savings), (9, 9));
+        return Err(answer);
+    }
+    Ok((charge, savings))
+}
+
+/// The file that Write makes in a buffer of so many bytes. A refusal leaves everything as it was;
+/// else the bytes after the file keep their contents.
+pub fn written(values: &Values, room: usize) -> Result<Vec<u8>, u32> {
+    let mut buffer = vec![0xee; room];
+    let mut length = 9;
+    let answer = write(
+        values.edition,
+        values.header.into(),
+        &values.counts,
+        &values.claims,
+        &values.joined,
+        &mut buffer,
+        &mut length,
+    );
+    if answer != 0 {
+        assert_eq!(length, 9);
+        assert!(buffer.iter().all(|&byte| byte == 0xee));
+        return Err(answer);
+    }
+    assert!(buffer[length..].iter().all(|&byte| byte == 0xee));
+    buffer.truncate(length);
+    Ok(buffer)
 }

@@ -3,7 +3,7 @@
 //! answers are typed here; every number and every byte beside them, also after a refusal, is held
 //! to the second rater. Where results are typed too, they are worked out beside the test.
 
-use retro_tests::calls::{self, rated, Group, Numbers, Rated};
+use retro_tests::calls::{self, rated, tabled, Group, Numbers, Rated};
 use retro_tests::generator::{
     first_bits, get, risks_in, set, with, Field, Random, CONVERSION, EDITION, HEADER, MAXIMUM_MARK,
     MINIMUM_MARK, RISKS, SPARE, STANDARD_PREMIUM, TAX,
@@ -27,36 +27,12 @@ fn other_editions() -> impl Iterator<Item = u32> {
 
 /// The file of a group, by Write.
 fn written(sample: &Sample) -> Vec<u8> {
-    let mut file = vec![PRESET; LARGEST_FILE];
-    let mut length = 0;
-    let answer = calls::write(
-        sample.edition(),
-        sample.header.into(),
-        &sample.counts(),
-        &sample.claims(),
-        &sample.joined(),
-        &mut file,
-        &mut length,
-    );
-    assert_eq!(answer, 0);
-    assert!(file[length..].iter().all(|&byte| byte == PRESET));
-    file.truncate(length);
-    file
+    calls::written(&sample.values(), LARGEST_FILE).unwrap()
 }
 
 /// What Rate gives on a group, with a buffer that is just enough.
 fn rated_group(sample: &Sample) -> Rated {
     rated(&written(sample), 4 * sample.risks.len()).unwrap()
-}
-
-/// Charge and savings of a file.
-fn table(file: &[u8], entry_ratio: u32) -> (u32, u32) {
-    let (mut charge, mut savings) = (0, 0);
-    assert_eq!(
-        calls::table(file, entry_ratio, &mut charge, &mut savings),
-        0
-    );
-    (charge, savings)
 }
 
 /// One risk with these claims, of which those are joined, and the header of the four-risk group.
@@ -148,7 +124,7 @@ fn four_risks_in_edition_2_with_no_bit_set() {
         (200, (71, 1_071)),
         (300, (0, 2_000)),
     ] {
-        assert_eq!(table(&file, entry_ratio), given);
+        assert_eq!(tabled(&file, entry_ratio), Ok(given));
     }
     let mut numbers = Numbers::default();
     let (mut premiums, mut differences) = ([0; 16], [0; 4]);

@@ -2,7 +2,7 @@
 //! through the exported calls. Expected values are typed from the papers; where a paper gives none,
 //! the second rater does, and the test says so.
 
-use retro_tests::calls::{self, rated, Group, Header, Numbers, Rated};
+use retro_tests::calls::{self, rated, tabled, Group, Header, Numbers, Rated};
 use retro_tests::held_calls::HeldCalls;
 use retro_tests::samples::{
     crossed_marks, four_risks, largest, one_claim_of_one, stock, ten_risks, two_risks_of_ten,
@@ -24,18 +24,6 @@ const FOUR_RISKS: [u8; 34] = [
 /// Rate of a group, with a buffer that is just enough.
 fn rate_group(sample: &Sample) -> Result<Rated, u32> {
     rated(&write(sample), 4 * sample.risks.len())
-}
-
-/// Table: charge and savings.
-fn table(file: &[u8], entry_ratio: u32) -> Result<(u32, u32), u32> {
-    let (mut charge, mut savings) = (9, 9);
-    match calls::table(file, entry_ratio, &mut charge, &mut savings) {
-        0 => Ok((charge, savings)),
-        question => {
-            assert_eq!((charge, savings), (9, 9));
-            Err(question)
-        }
-    }
 }
 
 /// Read's answer where the buffers are large.
@@ -66,35 +54,13 @@ fn plan_refuses(file: &[u8]) -> u32 {
 
 /// The file of a group, by Write.
 fn write(sample: &Sample) -> Vec<u8> {
-    try_write(sample).unwrap()
-}
-
-/// The file of a group, or Write's refusal.
-fn try_write(sample: &Sample) -> Result<Vec<u8>, u32> {
-    let mut file = vec![0xee; 40_370];
-    let mut length = 9;
-    let answer = calls::write(
-        sample.edition(),
-        sample.header.into(),
-        &sample.counts(),
-        &sample.claims(),
-        &sample.joined(),
-        &mut file,
-        &mut length,
-    );
-    if answer != 0 {
-        assert_eq!(length, 9);
-        assert!(file.iter().all(|&byte| byte == 0xee));
-        return Err(answer);
-    }
-    file.truncate(length);
-    Ok(file)
+    calls::written(&sample.values(), 40_370).unwrap()
 }
 
 /// The same refusal from the five calls on a file.
 fn all_refuse(file: &[u8], question: u32) {
     assert_eq!(rated(file, 1_020), Err(question));
-    assert_eq!(table(file, 100), Err(question));
+    assert_eq!(tabled(file, 100), Err(question));
     assert_eq!(read(file), question);
     assert_eq!(guaranteed_refuses(file), question);
     assert_eq!(plan_refuses(file), question);
@@ -135,10 +101,10 @@ fn premiums_have_their_most_significant_byte_first() {
 
 #[test]
 fn four_risks_tabled() {
-    assert_eq!(table(&FOUR_RISKS, 0), Ok((1_000, 0)));
-    assert_eq!(table(&FOUR_RISKS, 100), Ok((321, 321)));
-    assert_eq!(table(&FOUR_RISKS, 200), Ok((71, 1_071)));
-    assert_eq!(table(&FOUR_RISKS, 300), Ok((0, 2_000)));
+    assert_eq!(tabled(&FOUR_RISKS, 0), Ok((1_000, 0)));
+    assert_eq!(tabled(&FOUR_RISKS, 100), Ok((321, 321)));
+    assert_eq!(tabled(&FOUR_RISKS, 200), Ok((71, 1_071)));
+    assert_eq!(tabled(&FOUR_RISKS, 300), Ok((0, 2_000)));
 }
 
 #[test]
@@ -205,7 +171,7 @@ fn a_minimum_mark_above_the_maximum_gives_18() {
     for standard_premium in [1, 1_000] {
         let sample = crossed_marks(standard_premium);
         all_refuse(&sample.file_of_any_marks(), 18);
-        assert_eq!(try_write(&sample), Err(18));
+        assert_eq!(calls::written(&sample.values(), 40_370), Err(18));
     }
 }
 
@@ -257,7 +223,7 @@ fn all_claims_0_gives_10() {
     sample.risks = vec![vec![], vec![0, 0], vec![0], vec![0, 0, 0]];
     let file = write(&sample);
     assert_eq!(rated(&file, 16), Err(10));
-    assert_eq!(table(&file, 100), Err(10));
+    assert_eq!(tabled(&file, 100), Err(10));
     assert_eq!(read(&file), 0);
 }
 
@@ -317,10 +283,10 @@ fn the_entry_ratio_is_on_limited_losses() {
 fn savings_less_charge_is_kept_by_rounding() {
     for file in [FOUR_RISKS.to_vec(), write(&ten_risks())] {
         for entry_ratio in 0..=600 {
-            let (charge, savings) = table(&file, entry_ratio).unwrap();
+            let (charge, savings) = tabled(&file, entry_ratio).unwrap();
             assert_eq!(savings + 1_000, charge + 10 * entry_ratio);
         }
-        assert_eq!(table(&file, 601), Err(14));
+        assert_eq!(tabled(&file, 601), Err(14));
     }
 }
 
@@ -335,10 +301,10 @@ fn ten_risks_of_document_001() {
         rated.premiums,
         [4_640, 4_640, 7_240, 9_840, 9_840, 9_840, 9_840, 12_440, 13_740, 13_740]
     );
-    assert_eq!(table(&file, 50), Ok((550, 50)));
-    assert_eq!(table(&file, 100), Ok((183, 183)));
-    assert_eq!(table(&file, 150), Ok((50, 550)));
-    assert_eq!(table(&file, 200), Ok((0, 1_000)));
+    assert_eq!(tabled(&file, 50), Ok((550, 50)));
+    assert_eq!(tabled(&file, 100), Ok((183, 183)));
+    assert_eq!(tabled(&file, 150), Ok((50, 550)));
+    assert_eq!(tabled(&file, 200), Ok((0, 1_000)));
 }
 
 // ---- the largest file

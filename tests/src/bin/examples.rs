@@ -29,20 +29,8 @@ fn main() -> io::Result<()> {
 
 /// The file of a group, by the exported Write.
 fn written(sample: &Sample) -> Vec<u8> {
-    let mut file = vec![0; LARGEST_FILE];
-    let mut length = 0;
-    let answer = calls::write(
-        sample.edition(),
-        sample.header.into(),
-        &sample.counts(),
-        &sample.claims(),
-        &sample.joined(),
-        &mut file,
-        &mut length,
-    );
-    assert_eq!(answer, 0, "Write refused the example with {answer}");
-    file.truncate(length);
-    file
+    calls::written(&sample.values(), LARGEST_FILE)
+        .unwrap_or_else(|answer| panic!("Write refused the example with {answer}"))
 }
 
 /// Files that are rated.
