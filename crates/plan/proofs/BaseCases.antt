@@ -7,7 +7,7 @@ use Rattle.plan.specs.Losses.{limited_of}
 use Rattle.plan.specs.Marks.{LG, LH}
 use Rattle.plan.specs.Ratable.{ratable, SX, SS}
 use Rattle.plan.specs.Table.{charge, savings, charge_sum, savings_sum}
-use Rattle.plan.specs.Calls.{given, refused, rated_of, rate, table, read, write}
+use Rattle.plan.specs.Calls.{rate_buffer, given, refused, rated_of, rate, table, read, write}
 use Rattle.plan.specs.Arithmetic.{nearest}
 use Rattle.plan.specs.Field.{bit, number, field, bytes_of}
 use Rattle.plan.specs.Claim.{claim_width, claim_at, past_claim, slots_of_claim}
@@ -15,7 +15,7 @@ use Rattle.plan.specs.Risk.{count_at, first_claim}
 use Rattle.plan.specs.Basic.{basic_premium, excess_charge}
 use Rattle.plan.specs.Premium.{bill_rounding, bill_with}
 use Rattle.plan.specs.Demand3.{Demand3, total_with, taxed_expenses_and_losses}
-use Rattle.plan.proofs.Groups.{Written, four, four_file, thirds, thirds_file, halves, halves_file, tens, tens_file2000, tens_file1000, limits, limits_file, rates, tables, totals, limiteds, ratables, lg, four_premiums}
+use Rattle.plan.proofs.Groups.{longer_file, Written, four, four_file, thirds, thirds_file, halves, halves_file, tens, tens_file2000, tens_file1000, limits, limits_file, rates, tables, totals, limiteds, ratables, lg, four_premiums}
 use lib.Signed.{◌≤ℤ◌}
 use lib.ListN.{replicate}
 
@@ -32,11 +32,14 @@ FourCase =
     × (total_with four_file (pos 6700000) 3300000 ≡ pos (10000000 * 4 * 33600))
     × (read four_file 4 6 6 ≡ given four)
     × (write four 34 ≡ given four_file)
+    × (rate_buffer four_file (replicate 16 7) ≡ four_premiums)
     × (rate four_file 15 ≡ refused 13)
+    -- 8 before 9
+    × (rate longer_file 16 ≡ refused 8)
 
 pub four_case : FourCase
 unfolding bytes_of number bit field claim_width claim_at past_claim slots_of_claim count_at first_claim limited_of LG LH SX SS ratable basic_premium excess_charge nearest bill_rounding bill_with rated_of rate total_with taxed_expenses_and_losses read write
-four_case = (refl, refl, refl, refl, refl, refl, refl, refl, refl, refl)
+four_case = (refl, refl, refl, refl, refl, refl, refl, refl, refl, refl, refl, refl)
 
 -- 'Table on it: r 0 gives 1000 and 0; r 100 gives 321 and 321; r 200 gives 71 and 1071; r 300 gives 0 and 2000.' And r 25, where
 -- 812.5 and 62.5 thousandths are exact halves
