@@ -1,4 +1,4 @@
--- Documents 01 and 02 as definitions, in their order: all that a reader must believe. What follows from them is the crate `laws`.
+-- Documents 01 and 02 as definitions, in their order, which a reader must believe. What follows from them is the crate `laws`.
 pub mod Arithmetic
 pub mod Sizes
 -- The group file

@@ -1,2 +1,2 @@
-// All that a reader must believe: documents 01 and 02 as definitions (`specs`), and their cases, computed (`proofs`). No code.
+// Documents 01 and 02 as definitions (`specs`), which a reader must believe, and their cases, computed (`proofs`). No code.
 #![tactic(auto)]
