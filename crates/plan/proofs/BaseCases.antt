@@ -1,20 +1,21 @@
 -- Document 01's cases.
+use mathlib.Core.Logic.{◌≢◌}
 use mathlib.Core.Path.{◌≡◌, refl}
 use mathlib.Core.List.{[], ◌∷◌}
-use Prim.Native.Nat.{◌*◌, ◌+◌}
+use Prim.Native.Nat.{◌*◌, ◌+◌, ◌-◌}
 use lib.IntN.{pos}
 use Rattle.plan.specs.Losses.{limited_of}
 use Rattle.plan.specs.Marks.{LG, LH}
 use Rattle.plan.specs.Ratable.{ratable, SX, SS}
 use Rattle.plan.specs.Table.{charge, savings, charge_sum, savings_sum}
-use Rattle.plan.specs.Calls.{rate_buffer, given, refused, rated_of, rate, table, read, write}
+use Rattle.plan.specs.Calls.{rate_buffer, given, refused, rated_of, rate, table, read, write, Demand3After}
 use Rattle.plan.specs.Arithmetic.{nearest}
 use Rattle.plan.specs.Field.{bit, number, field, bytes_of}
 use Rattle.plan.specs.Claim.{claim_width, claim_at, past_claim, slots_of_claim}
 use Rattle.plan.specs.Risk.{count_at, first_claim}
 use Rattle.plan.specs.Basic.{basic_premium, excess_charge}
 use Rattle.plan.specs.Premium.{bill_rounding, bill_with}
-use Rattle.plan.specs.Demand3.{Demand3, total_with, taxed_expenses_and_losses}
+use Rattle.plan.specs.Demand3.{Demand3, total_with, taxed_expenses_and_losses, numbers_in}
 use Rattle.plan.proofs.Groups.{longer_file, Written, four, four_file, thirds, thirds_file, halves, halves_file, tens, tens_file2000, tens_file1000, limits, limits_file, rates, tables, totals, limiteds, ratables, lg, four_premiums}
 use lib.Signed.{◌≤ℤ◌}
 use lib.ListN.{replicate}
@@ -84,15 +85,26 @@ unfolding bytes_of number bit field claim_width claim_at past_claim slots_of_cla
 other_cases =
     (refl, refl, refl, refl, refl, refl, refl, refl, refl, refl, refl, refl, refl, refl, refl, refl)
 
--- what demand 3 says of the group of four, and how near the bills are where each is half a dollar above what is owed, and where none is
--- billed
+-- what demand 3 says of the group of four, field by field, another basic premium being 0; and how near the bills are where each is half a
+-- dollar above what is owed, and where none is billed
 abbrev pub DemandCase : Type 0
 DemandCase =
-    (Demand3 four_file 6700000 3300000 33600 four_premiums
-    → (pos (10000000 * 4 * 33600) ≡ pos (10000000 * 4 * 33600)) × (33600 ≡ 4935 + 7245 + 8400 + 13020))
+    (Demand3After (rate four_file 16) four_file 6700000 3300000 33600 four_premiums
+    → (pos 6700000 ≡ pos 6700000)
+    × (3300000 ≡ 1100 * 3000)
+    × (numbers_in four_premiums 4 ≡ 4935 ∷ 7245 ∷ 8400 ∷ 13020 ∷ [])
+    × (33600 ≡ 4935 + 7245 + 8400 + 13020)
+    × (pos (10000000 * 4 * 33600) ≡ pos (10000000 * 4 * 33600))
+    × (pos 0 ≢ pos 6700000 → pos (10000000 * 4 * 33600 - 4 * 10500 * 6700000) ≢ pos (10000000 * 4 * 33600))
+    × (pos (10000000 * 4 * 33600) ≤ℤ pos (10000000 * 4 * 33600 + 5000000 * 4 * 4))
+    × (pos (10000000 * 4 * 33600) ≤ℤ pos (10000000 * 4 * 33600 + 5000000 * 4 * 4)))
     × (Demand3 halves_file 1000 0 2 (0 ∷ 0 ∷ 0 ∷ 1 ∷ 0 ∷ 0 ∷ 0 ∷ 1 ∷ []) → pos 40000000 ≤ℤ pos 40000000)
     × (Demand3 thirds_file 1000 0 0 (replicate 12 0) → pos 30000000 ≤ℤ pos 45000000)
 
 pub demand_case : DemandCase
-unfolding number bit field claim_width claim_at past_claim count_at first_claim limited_of LG LH SX SS ratable total_with taxed_expenses_and_losses
-demand_case = (λ b. (b.total, b.billed_is), λ b. b.not_above, λ b. b.not_below)
+unfolding bytes_of number bit field claim_width claim_at past_claim slots_of_claim count_at first_claim limited_of LG LH SX SS ratable basic_premium excess_charge nearest bill_rounding bill_with rated_of rate total_with taxed_expenses_and_losses read write
+demand_case = (
+  λ b. (b.basic_after, b.excess_is, b.premiums_are, b.billed_is, b.total, b.no_other (pos 0), b.not_above, b.not_below),
+  λ b. b.not_above,
+  λ b. b.not_below,
+)

@@ -3,7 +3,7 @@ use mathlib.Core.Path.{◌≡◌, refl}
 use lib.IntN.{pos}
 use Rattle.plan.specs.Calls.{refused}
 use lib.Ieee.{of_bits, of_int, add, mul, div, le, Float}
-use Rattle.plan.specs.Charge.{charge_double, greatest, thousandths, charge1965, exact_denominator, OnTable}
+use Rattle.plan.specs.Charge.{charge_double, greatest, thousandths, charge1965, exact_denominator, OnTableAfter, Within, exact_numerator}
 use Rattle.plan.proofs.Groups.{charged}
 use mathlib.Core.Bool.{true}
 use lib.Dec.{leb}
@@ -78,11 +78,13 @@ charge_case = (
 -- what is promised of a charge, at r 1.00; and how far rows are off 1 ÷ column − 2: .40 by nothing, .48 by more than 1 ten-millionth
 abbrev pub TenfoldCase : Type 0
 TenfoldCase =
-    ((x : Float) (n : ℕ) → OnTable 36 100 x n → n ≡ 360)
+    ((x : Float) (n : ℕ) → OnTableAfter (charge1965 36 100) 36 100 x n
+    → Within x exact_numerator (pos 277777790000000000000000) × (n ≡ 360))
     × (row_off 36 ≡ 44)
     × (row_off 40 ≡ 0)
     × (row_off 48 ≡ 64)
     × (leb (row_off 48) (row_tolerance * 48) ≡ true)
 
 pub tenfold_case : TenfoldCase
-tenfold_case = (λ x n b. b.tenfold refl, refl, refl, refl, refl)
+unfolding charge_double charge1965 exact_denominator thousandths greatest add mul div le of_int of_bits
+tenfold_case = (λ x n b. (b.within, b.tenfold refl), refl, refl, refl, refl)

@@ -4,7 +4,7 @@ use mathlib.Core.List.{[], ◌∷◌}
 use Rattle.plan.specs.Losses.{limited_of}
 use Rattle.plan.specs.Marks.{LG, LH}
 use Rattle.plan.specs.Ratable.{ratable, SX, SS}
-use Rattle.plan.specs.Calls.{refused, rated_of}
+use Rattle.plan.specs.Calls.{refused, rated_of, rate}
 use Rattle.plan.specs.Arithmetic.{nearest}
 use Rattle.plan.specs.Field.{bit, number, field}
 use Rattle.plan.specs.Claim.{claim_width, claim_at, past_claim}
@@ -12,10 +12,11 @@ use Rattle.plan.specs.Risk.{count_at, first_claim}
 use Rattle.plan.specs.Basic.{basic_premium, excess_charge}
 use Rattle.plan.specs.Premium.{bill_rounding, bill_with}
 use Rattle.plan.specs.Discount.{discount, guaranteed_cost}
-use Rattle.plan.specs.Comparison.{comparison_of, compare, Beside}
-use Rattle.plan.proofs.Groups.{four_file, tens_file2000, layer, stock, four_beside, four_numbers, four_premiums, four_differences}
-use Prim.Native.Nat.{◌+◌}
-use lib.IntN.{negsuc}
+use Rattle.plan.specs.Comparison.{comparison_of, compare, BesideAfter, Sized}
+use Rattle.plan.proofs.Groups.{four_file, tens_file2000, layer, stock, four_beside, four_numbers, four_premiums, four_differences, rates}
+use Prim.Native.Nat.{◌+◌, ℕ, ◌*◌, ◌≤◌}
+use lib.IntN.{negsuc, pos, ◌-ℤ◌}
+use lib.Signed.{◌≤ℤ◌, ◌<ℤ◌}
 
 abbrev pub GuaranteedCase : Type 0
 GuaranteedCase =
@@ -45,12 +46,30 @@ pub guaranteed_case : GuaranteedCase
 unfolding number bit field claim_width claim_at past_claim count_at first_claim limited_of LG LH SX SS ratable basic_premium excess_charge nearest bill_rounding bill_with rated_of discount guaranteed_cost comparison_of compare
 guaranteed_case = (refl, refl, refl, refl, refl, refl, refl, refl, refl, refl, refl, refl, refl, refl, refl)
 
--- what the call promises beside Rate, of the group of four
+-- what the call promises beside Rate, of the group of four, field by field
 abbrev pub BesideCase : Type 0
 BesideCase =
-    Beside four_file four_numbers four_premiums four_differences
-    → (9455 + 545 ≡ 10000) × (negsuc 4219 ≡ negsuc 4219) × (four_differences ≡ four_differences)
+    BesideAfter (compare four_file (stock 0) 16 4) four_file four_numbers four_premiums four_differences
+    → (545 ≤ 10000)
+    × (9455 + 545 ≡ 10000)
+    × (four_differences ≡ four_differences)
+    × Sized four_differences
+    × (negsuc 1069547264 ≤ℤ negsuc 4219)
+    × (negsuc 4219 <ℤ pos 547608330240)
+    × (negsuc 4219 ≡ negsuc 4219)
+    × (negsuc 4219 ≡ pos 33600 -ℤ pos (4 * 9455))
+    × ((room : ℕ) → 4 * 4 ≤ room → rate four_file room ≡ rates 4 (pos 6700000) 3300000 33600 (4935 ∷ 7245 ∷ 8400 ∷ 13020 ∷ []))
 
 pub beside_case : BesideCase
-unfolding number bit field
-beside_case = λ b. (b.less_discount, b.total, b.differences_are)
+unfolding number bit field claim_width claim_at past_claim count_at first_claim limited_of LG LH SX SS ratable basic_premium excess_charge nearest bill_rounding bill_with rated_of discount guaranteed_cost comparison_of compare
+beside_case = λ b. (
+  b.discount_most,
+  b.less_discount,
+  b.differences_are,
+  b.sized,
+  b.sum_least,
+  b.sum_most,
+  b.summed,
+  b.total,
+  b.as_rated,
+)

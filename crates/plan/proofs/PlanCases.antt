@@ -1,6 +1,6 @@
 -- The cases of document 02, job 6, on the group of four: M ÷ (1,000 × n) is 1,675, and the taxed expenses and losses are 33,600.
 use mathlib.Core.Path.{◌≡◌, refl}
-use Prim.Native.Nat.{◌*◌, ◌-◌, ◌+◌, ◌<◌, ◌≤◌}
+use Prim.Native.Nat.{◌*◌, ◌-◌, ◌+◌, ◌<◌, ◌≤◌, ℕ, ◌^◌, min}
 use lib.IntN.{pos, negsuc, ◌-ℤ◌}
 use Rattle.plan.specs.Losses.{limited_of}
 use Rattle.plan.specs.Marks.{LG, LH}
@@ -12,8 +12,9 @@ use Rattle.plan.specs.Claim.{claim_width, claim_at, past_claim}
 use Rattle.plan.specs.Risk.{count_at, first_claim}
 use Rattle.plan.specs.Basic.{basic_premium, excess_charge}
 use Rattle.plan.specs.Demand3.{taxed_expenses_and_losses}
-use Rattle.plan.specs.SoldOnPremiums.{premiums_at, halvings, plan_for, Sold, Finished}
+use Rattle.plan.specs.SoldOnPremiums.{premiums_at, halvings, plan_for, Sold, Finished, SoldAfter, bound_questions}
 use Rattle.plan.proofs.Groups.{four_file, tens_file2000, crossing_file1, plans, unbounded}
+use Rattle.plan.specs.Questions.{passed, first_no}
 
 abbrev pub PlanCase : Type 0
 PlanCase =
@@ -51,13 +52,28 @@ unfolding number bit field claim_width claim_at past_claim count_at first_claim 
 plan_case =
     (refl, refl, refl, refl, refl, refl, refl, refl, refl, refl, refl, refl, refl, refl, refl, refl, refl, refl, refl)
 
--- what is promised of a plan: Rate's own bounds, and the most that a finished plan is over by
+-- what is promised of a plan, field by field: by Rate's own bounds, the most that a finished plan is over by, and of a refusal by 23
 abbrev pub SoldCase : Type 0
 SoldCase =
-    (Sold four_file 13020 4935 20 20 1675 (pos 1674) → (pos 1675 -ℤ pos 1674 ≡ pos 1) × (10000000 * 4 * 33600 ≤ 10000000 * 4 * 33600))
+    (SoldAfter (plan_for four_file 13020 4935 20) four_file 13020 4935 20 20 1675 (pos 1674)
+    → (1675 ≤ 1048575)
+    × (10000000 * 4 * 33600 ≤ 10000000 * 4 * 33600)
+    × (10000000 * 4 * 33600 - 2 * 42000000 < 10000000 * 4 * 33600)
+    × (20 ≡ min 20 20)
+    × (pos 1675 -ℤ pos 1674 ≡ pos (2 ^ 0))
+    × (20 ≤ 20 → Finished 1675 (pos 1674))
+    × ((a b : ℕ) → a ≤ b → premiums_at four_file 13020 4935 a ≤ premiums_at four_file 13020 4935 b)
+    × (Finished 1675 (pos 1674) → (b : ℕ) → b < 1675 → premiums_at four_file 13020 4935 b < 10000000 * 4 * 33600))
     × (Sold four_file unbounded 2500 20 20 1349 (pos 1348)
     → Finished 1349 (pos 1348) → 0 < 1349 → 1344124000000 ≤ 1344000000000 + 168000000)
+    × (SoldAfter (plan_for four_file 8399 0 20) four_file 8399 0 20 0 0 (pos 0)
+    → (◌≡◌ {A = ℕ} 23 23 → (b : ℕ) → b ≤ 1048575 → premiums_at four_file 8399 0 b < 10000000 * 4 * 33600)
+    × (first_no (bound_questions four_file 8399 0) ≡ passed → ◌≡◌ {A = ℕ} 23 23))
 
 pub sold_case : SoldCase
 unfolding number bit field claim_width claim_at past_claim count_at first_claim limited_of LG LH SX SS ratable basic_premium excess_charge nearest taxed_expenses_and_losses premiums_at halvings plan_for
-sold_case = (λ b. (b.distance_is, b.best_reaches), λ b. b.over_by)
+sold_case = (
+  λ b. (b.in_range, b.best_reaches, b.short_falls, b.made_is, b.distance_is, b.finishes, b.never_falls, b.least),
+  λ b. b.over_by,
+  λ b. (b.none, b.only),
+)
