@@ -1,14 +1,14 @@
 -- Document 01's cases.
 use mathlib.Core.Logic.{◌≢◌}
 use mathlib.Core.Path.{◌≡◌, refl}
-use mathlib.Core.List.{[], ◌∷◌}
+use mathlib.Core.List.{[], ◌∷◌, ◌++◌}
 use Prim.Native.Nat.{◌*◌, ◌+◌, ◌-◌}
 use lib.IntN.{pos}
 use Rattle.plan.specs.Losses.{limited_of}
 use Rattle.plan.specs.Marks.{LG, LH}
 use Rattle.plan.specs.Ratable.{ratable, SX, SS}
 use Rattle.plan.specs.Table.{charge, savings, charge_sum, savings_sum}
-use Rattle.plan.specs.Calls.{rate_buffer, given, refused, rated_of, rate, table, read, write, Demand3After}
+use Rattle.plan.specs.Calls.{rate_buffer, given, refused, rated_of, rate, table, read, write, Demand3After, read_counts, read_claims, read_joined, write_buffer, write_length}
 use Rattle.plan.specs.Arithmetic.{nearest}
 use Rattle.plan.specs.Field.{bit, number, field, bytes_of}
 use Rattle.plan.specs.Claim.{claim_width, claim_at, past_claim, slots_of_claim}
@@ -33,14 +33,13 @@ FourCase =
     × (total_with four_file (pos 6700000) 3300000 ≡ pos (10000000 * 4 * 33600))
     × (read four_file 4 6 6 ≡ given four)
     × (write four 34 ≡ given four_file)
-    × (rate_buffer four_file (replicate 16 7) ≡ four_premiums)
     × (rate four_file 15 ≡ refused 13)
     -- 8 before 9
     × (rate longer_file 16 ≡ refused 8)
 
 pub four_case : FourCase
 unfolding bytes_of number bit field claim_width claim_at past_claim slots_of_claim count_at first_claim limited_of LG LH SX SS ratable basic_premium excess_charge nearest bill_rounding bill_with rated_of rate total_with taxed_expenses_and_losses read write
-four_case = (refl, refl, refl, refl, refl, refl, refl, refl, refl, refl, refl, refl)
+four_case = (refl, refl, refl, refl, refl, refl, refl, refl, refl, refl, refl)
 
 -- 'Table on it: r 0 gives 1000 and 0; r 100 gives 321 and 321; r 200 gives 71 and 1071; r 300 gives 0 and 2000.' And r 25, where
 -- 812.5 and 62.5 thousandths are exact halves
@@ -84,6 +83,27 @@ pub other_cases : OtherCases
 unfolding bytes_of number bit field claim_width claim_at past_claim slots_of_claim count_at first_claim limited_of LG LH SX SS ratable basic_premium excess_charge nearest bill_rounding bill_with rated_of rate total_with taxed_expenses_and_losses
 other_cases =
     (refl, refl, refl, refl, refl, refl, refl, refl, refl, refl, refl, refl, refl, refl, refl, refl)
+
+-- 'Later bytes of the buffer keep their contents': what lent buffers hold after a call on the group of four, each one entry longer than it
+-- need be, and the lent length after Write; and that a refusal keeps them
+abbrev pub BufferCase : Type 0
+BufferCase =
+    (rate_buffer four_file (replicate 17 9) ≡ four_premiums ++ 9 ∷ [])
+    × (read_counts four_file (replicate 5 9) (replicate 7 9) (replicate 7 9) ≡ 0 ∷ 2 ∷ 1 ∷ 3 ∷ 9 ∷ [])
+    × (read_claims four_file (replicate 5 9) (replicate 7 9) (replicate 7 9) ≡ 3000 ∷ 1000 ∷ 7000 ∷ 5000 ∷ 6000 ∷ 2000 ∷ 9 ∷ [])
+    × (read_joined four_file (replicate 5 9) (replicate 7 9) (replicate 7 9) ≡ 0 ∷ 0 ∷ 0 ∷ 0 ∷ 0 ∷ 0 ∷ 9 ∷ [])
+    × (write_buffer four (replicate 35 9) ≡ four_file ++ 9 ∷ [])
+    × (write_length four 35 9 ≡ 34)
+    × (rate_buffer four_file (replicate 15 9) ≡ replicate 15 9)
+    × (read_counts four_file (replicate 3 9) (replicate 6 9) (replicate 6 9) ≡ replicate 3 9)
+    × (read_claims four_file (replicate 4 9) (replicate 5 9) (replicate 6 9) ≡ replicate 5 9)
+    × (read_joined four_file (replicate 4 9) (replicate 6 9) (replicate 5 9) ≡ replicate 5 9)
+    × (write_buffer four (replicate 33 9) ≡ replicate 33 9)
+    × (write_length four 33 9 ≡ 9)
+
+pub buffer_case : BufferCase
+unfolding bytes_of number bit field claim_width claim_at past_claim slots_of_claim count_at first_claim limited_of LG LH SX SS ratable basic_premium excess_charge nearest bill_rounding bill_with rated_of rate total_with taxed_expenses_and_losses read write
+buffer_case = (refl, refl, refl, refl, refl, refl, refl, refl, refl, refl, refl, refl)
 
 -- what demand 3 says of the group of four, field by field, another basic premium being 0; and how near the bills are where each is half a
 -- dollar above what is owed, and where none is billed

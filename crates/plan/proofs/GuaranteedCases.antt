@@ -1,22 +1,23 @@
 -- The cases of document 02, job 1.
 use mathlib.Core.Path.{◌≡◌, refl}
-use mathlib.Core.List.{[], ◌∷◌}
+use mathlib.Core.List.{[], ◌∷◌, ◌++◌}
 use Rattle.plan.specs.Losses.{limited_of}
 use Rattle.plan.specs.Marks.{LG, LH}
 use Rattle.plan.specs.Ratable.{ratable, SX, SS}
 use Rattle.plan.specs.Calls.{refused, rated_of, rate}
 use Rattle.plan.specs.Arithmetic.{nearest}
-use Rattle.plan.specs.Field.{bit, number, field}
+use Rattle.plan.specs.Field.{bit, number, field, bytes_of}
 use Rattle.plan.specs.Claim.{claim_width, claim_at, past_claim}
 use Rattle.plan.specs.Risk.{count_at, first_claim}
 use Rattle.plan.specs.Basic.{basic_premium, excess_charge}
 use Rattle.plan.specs.Premium.{bill_rounding, bill_with}
 use Rattle.plan.specs.Discount.{discount, guaranteed_cost}
-use Rattle.plan.specs.Comparison.{comparison_of, compare, BesideAfter, Sized}
+use Rattle.plan.specs.Comparison.{comparison_of, compare, BesideAfter, Sized, compare_premiums, compare_differences}
 use Rattle.plan.proofs.Groups.{four_file, tens_file2000, layer, stock, four_beside, four_numbers, four_premiums, four_differences, rates}
 use Prim.Native.Nat.{◌+◌, ℕ, ◌*◌, ◌≤◌}
 use lib.IntN.{negsuc, pos, ◌-ℤ◌}
 use lib.Signed.{◌≤ℤ◌, ◌<ℤ◌}
+use lib.ListN.{replicate}
 
 abbrev pub GuaranteedCase : Type 0
 GuaranteedCase =
@@ -45,6 +46,18 @@ GuaranteedCase =
 pub guaranteed_case : GuaranteedCase
 unfolding number bit field claim_width claim_at past_claim count_at first_claim limited_of LG LH SX SS ratable basic_premium excess_charge nearest bill_rounding bill_with rated_of discount guaranteed_cost comparison_of compare
 guaranteed_case = (refl, refl, refl, refl, refl, refl, refl, refl, refl, refl, refl, refl, refl, refl, refl)
+
+-- its two buffers after the call, each longer than it need be; and after refusals, which keep them
+abbrev pub BesideBufferCase : Type 0
+BesideBufferCase =
+    (compare_premiums four_file (stock 0) (replicate 18 9) (replicate 5 (pos 9)) ≡ four_premiums ++ 9 ∷ 9 ∷ [])
+    × (compare_differences four_file (stock 0) (replicate 18 9) (replicate 5 (pos 9)) ≡ four_differences ++ pos 9 ∷ [])
+    × (compare_premiums four_file (stock 0) (replicate 16 9) (replicate 3 (pos 9)) ≡ replicate 16 9)
+    × (compare_differences four_file (stock 0) (replicate 15 9) (replicate 4 (pos 9)) ≡ replicate 4 (pos 9))
+
+pub beside_buffer_case : BesideBufferCase
+unfolding bytes_of number bit field claim_width claim_at past_claim count_at first_claim limited_of LG LH SX SS ratable basic_premium excess_charge nearest bill_rounding bill_with rated_of discount guaranteed_cost comparison_of compare
+beside_buffer_case = (refl, refl, refl, refl)
 
 -- what the call promises beside Rate, of the group of four, field by field
 abbrev pub BesideCase : Type 0
