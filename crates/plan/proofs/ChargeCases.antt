@@ -1,14 +1,15 @@
 -- Document 02, job 5, on columns .36, .44 and .52 at r 0, 0.50, 1.00, 2.00 and 5.00: the double by its bits, and its thousandths
 use mathlib.Core.Path.{◌≡◌, refl}
-use lib.IntN.{pos}
+use lib.IntN.{pos, negsuc}
 use Rattle.plan.specs.Calls.{refused}
-use lib.Ieee.{of_bits, of_int, add, mul, div, le, Float}
-use Rattle.plan.specs.Charge.{charge_double, greatest, thousandths, charge1965, exact_denominator, OnTableAfter, Within, exact_numerator}
+use lib.Ieee.{of_bits, of_int, add, mul, div, le, Float, fin, binary64}
+use Rattle.plan.specs.Charge.{charge_double, greatest, thousandths, charge1965, exact_denominator, OnTableAfter, Within, exact_numerator, raised}
 use Rattle.plan.proofs.Groups.{charged}
-use mathlib.Core.Bool.{true}
+use mathlib.Core.Bool.{true, false}
 use lib.Dec.{leb}
 use Rattle.plan.specs.Matrix.{row_off, row_tolerance}
-use Prim.Native.Nat.{ℕ, ◌*◌}
+use Prim.Native.Nat.{ℕ, ◌*◌, ◌<◌, ◌≤◌}
+use Rattle.plan.specs.Doubles.{whole}
 
 abbrev pub ChargeCase : Type 0
 ChargeCase =
@@ -35,6 +36,10 @@ ChargeCase =
     × (exact_denominator 36 100 ≡ pos 277777790000000000000000)
     × (exact_denominator 44 50 ≡ pos 156782714492187500000000)
     × (exact_denominator 52 500 ≡ pos 889101250000000000000000)
+    × (exact_numerator ≡ 100000000000000000000000)
+    -- 'at most (charge + 0.0005) × 1,000', and 'or 0 if none is'
+    × (raised (whole 1) ≡ of_bits binary64 0x408f_4400_0000_0000)
+    × (greatest 1000 (whole 0) ≡ 0)
     -- 'Errors: 20 a column outside .36 to .52, then 21 an entry ratio above 5.00'
     × (charge1965 35 100 ≡ refused 20)
     × (charge1965 53 100 ≡ refused 20)
@@ -73,6 +78,9 @@ charge_case = (
   refl,
   refl,
   refl,
+  refl,
+  refl,
+  refl,
 )
 
 -- what is promised of a charge, at r 1.00; and how far rows are off 1 ÷ column − 2: .40 by nothing, .48 by more than 1 ten-millionth
@@ -80,6 +88,9 @@ abbrev pub TenfoldCase : Type 0
 TenfoldCase =
     ((x : Float) (n : ℕ) → OnTableAfter (charge1965 36 100) 36 100 x n
     → Within x exact_numerator (pos 277777790000000000000000) × (n ≡ 360))
+    -- within a millionth: a half and 0.500001, and 0.499999, each just so
+    × (Within (fin false 1 (negsuc 0)) 1000002 (pos 2000000) → (0 < 2000000) × (4 * 1000000 ≤ 2000000 * 2))
+    × (Within (fin false 1 (negsuc 0)) 999998 (pos 2000000) → (0 < 2000000) × (4 * 1000000 ≤ 2000000 * 2))
     × (row_off 36 ≡ 44)
     × (row_off 40 ≡ 0)
     × (row_off 48 ≡ 64)
@@ -87,4 +98,4 @@ TenfoldCase =
 
 pub tenfold_case : TenfoldCase
 unfolding charge_double charge1965 exact_denominator thousandths greatest add mul div le of_int of_bits
-tenfold_case = (λ x n b. (b.within, b.tenfold refl), refl, refl, refl, refl)
+tenfold_case = (λ x n b. (b.within, b.tenfold refl), λ w. w, λ w. w, refl, refl, refl, refl)

@@ -66,7 +66,9 @@ BesideCase =
     → (545 ≤ 10000)
     × (9455 + 545 ≡ 10000)
     × (four_differences ≡ four_differences)
-    × Sized four_differences
+    × (negsuc 4194302 ≤ℤ negsuc 4519)
+    × (negsuc 4519 <ℤ pos 2147483648)
+    × Sized (negsuc 2209 ∷ negsuc 1054 ∷ pos 3565 ∷ [])
     × (negsuc 1069547264 ≤ℤ negsuc 4219)
     × (negsuc 4219 <ℤ pos 547608330240)
     × (negsuc 4219 ≡ negsuc 4219)
@@ -79,7 +81,9 @@ beside_case = λ b. (
   b.discount_most,
   b.less_discount,
   b.differences_are,
-  b.sized,
+  b.sized.0,
+  b.sized.1,
+  b.sized.2,
   b.sum_least,
   b.sum_most,
   b.summed,
