@@ -11,13 +11,14 @@ use Rattle.plan.specs.Claim.{claim_width, claim_at, past_claim}
 use Rattle.plan.specs.Risk.{count_at, first_claim}
 use Rattle.plan.specs.Basic.{basic_premium, excess_charge}
 use Rattle.plan.specs.Premium.{bill_rounding, bill_with}
-use Rattle.plan.specs.Discount.{discount, guaranteed_cost}
+use Rattle.plan.specs.Discount.{discount, guaranteed_cost, widths_pass}
 use Rattle.plan.specs.Comparison.{comparison_of, compare, BesideAfter, Sized, compare_premiums, compare_differences}
 use Rattle.plan.proofs.Groups.{four_file, tens_file2000, layer, stock, four_beside, four_numbers, four_premiums, four_differences, rates}
 use Prim.Native.Nat.{◌+◌, ℕ, ◌*◌, ◌≤◌}
 use lib.IntN.{negsuc, pos, ◌-ℤ◌}
 use lib.Signed.{◌≤ℤ◌, ◌<ℤ◌}
 use lib.ListN.{replicate}
+use mathlib.Core.Bool.{true}
 
 abbrev pub GuaranteedCase : Type 0
 GuaranteedCase =
@@ -35,6 +36,8 @@ GuaranteedCase =
     × (discount (layer 4294967295 100 ∷ layer 4294967295 200 ∷ layer 4294967295 300 ∷ layer 0 400 ∷ []) 4194303 ≡ 419430)
     × (compare four_file (stock 0) 16 4 ≡ four_beside)
     × (compare four_file (stock 4294967295) 16 4 ≡ four_beside)
+    -- a width of 1 passes
+    × (widths_pass (layer 1 0 ∷ layer 1 0 ∷ layer 1 0 ∷ layer 0 0 ∷ []) ≡ true)
     -- the questions after 12, in their order
     × (compare four_file (stock 0) 15 4 ≡ refused 13)
     × (compare four_file (stock 0) 16 3 ≡ refused 13)
@@ -45,7 +48,7 @@ GuaranteedCase =
 
 pub guaranteed_case : GuaranteedCase
 unfolding number bit field claim_width claim_at past_claim count_at first_claim limited_of LG LH SX SS ratable basic_premium excess_charge nearest bill_rounding bill_with rated_of discount guaranteed_cost comparison_of compare
-guaranteed_case = (refl, refl, refl, refl, refl, refl, refl, refl, refl, refl, refl, refl, refl, refl, refl)
+guaranteed_case = (refl, refl, refl, refl, refl, refl, refl, refl, refl, refl, refl, refl, refl, refl, refl, refl)
 
 -- its two buffers after the call, each longer than it need be; and after refusals, which keep them
 abbrev pub BesideBufferCase : Type 0
