@@ -1,6 +1,7 @@
 -- 'Proved cases, with the group above as the first': one list, over literal bytes and numbers, computed by the prover. Each group's bytes
 -- are also the file that its values make; one file has a fill bit set, which no values make. Values that document 01 leaves open are in docs/DECISIONS.md. Assumes nothing.
 use Rattle.plan.proofs.BaseCases.{FourCase, four_case, TableCase, table_case, OtherCases, other_cases, BufferCase, buffer_case, DemandCase, demand_case}
+use Rattle.plan.proofs.QuestionCases.{HeaderQuestionCase, header_question_case, FileQuestionCase, file_question_case, FitCase, fit_case}
 use Rattle.plan.proofs.GuaranteedCases.{GuaranteedCase, guaranteed_case, BesideBufferCase, beside_buffer_case, BesideCase, beside_case}
 use Rattle.plan.proofs.MarkCases.{MarksCase, marks_case}
 use Rattle.plan.proofs.SumCases.{SumsCase, sums_case}
@@ -11,7 +12,7 @@ use Rattle.plan.proofs.OrderCases.{OrderCase, order_case}
 
 -- all of them: 'gathered as one checked list'
 pub proved_cases :
-    FourCase × TableCase × OtherCases × BufferCase × DemandCase × GuaranteedCase × BesideBufferCase × BesideCase × MarksCase × SumsCase × AccidentsCase × ChargeCase
+    FourCase × TableCase × OtherCases × BufferCase × DemandCase × HeaderQuestionCase × FileQuestionCase × FitCase × GuaranteedCase × BesideBufferCase × BesideCase × MarksCase × SumsCase × AccidentsCase × ChargeCase
     × TenfoldCase × PlanCase × SoldCase × OrderCase
 proved_cases = (
   four_case,
@@ -19,6 +20,9 @@ proved_cases = (
   other_cases,
   buffer_case,
   demand_case,
+  header_question_case,
+  file_question_case,
+  fit_case,
   guaranteed_case,
   beside_buffer_case,
   beside_case,

@@ -36,6 +36,9 @@ GuaranteedCase =
     × (discount (layer 4294967295 100 ∷ layer 4294967295 200 ∷ layer 4294967295 300 ∷ layer 0 400 ∷ []) 4194303 ≡ 419430)
     × (compare four_file (stock 0) 16 4 ≡ four_beside)
     × (compare four_file (stock 4294967295) 16 4 ≡ four_beside)
+    -- without a layer
+    × (discount [] 5 ≡ 0)
+    × (widths_pass [] ≡ true)
     -- a width of 1 passes
     × (widths_pass (layer 1 0 ∷ layer 1 0 ∷ layer 1 0 ∷ layer 0 0 ∷ []) ≡ true)
     -- the questions after 12, in their order
@@ -48,7 +51,7 @@ GuaranteedCase =
 
 pub guaranteed_case : GuaranteedCase
 unfolding number bit field claim_width claim_at past_claim count_at first_claim limited_of LG LH SX SS ratable basic_premium excess_charge nearest bill_rounding bill_with rated_of discount guaranteed_cost comparison_of compare
-guaranteed_case = (refl, refl, refl, refl, refl, refl, refl, refl, refl, refl, refl, refl, refl, refl, refl, refl)
+guaranteed_case = (refl, refl, refl, refl, refl, refl, refl, refl, refl, refl, refl, refl, refl, refl, refl, refl, refl, refl)
 
 -- its two buffers after the call, each longer than it need be; and after refusals, which keep them
 abbrev pub BesideBufferCase : Type 0

@@ -1,6 +1,7 @@
 -- The cases of documents 01 and 02, computed: a file for the base and one for each request, and one list of all.
 pub mod Groups
 pub mod BaseCases
+pub mod QuestionCases
 pub mod GuaranteedCases
 pub mod MarkCases
 pub mod SumCases
