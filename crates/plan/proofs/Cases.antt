@@ -2,6 +2,7 @@
 -- are also the file that its values make; one file has a fill bit set, which no values make. Values that document 01 leaves open are in docs/DECISIONS.md. Assumes nothing.
 use Rattle.plan.proofs.BaseCases.{FourCase, four_case, TableCase, table_case, OtherCases, other_cases, BufferCase, buffer_case, DemandCase, demand_case}
 use Rattle.plan.proofs.QuestionCases.{HeaderQuestionCase, header_question_case, FileQuestionCase, file_question_case, FitCase, fit_case}
+use Rattle.plan.proofs.BoundCases.{SizeCase, size_case, BoundCase, bound_case}
 use Rattle.plan.proofs.GuaranteedCases.{GuaranteedCase, guaranteed_case, BesideBufferCase, beside_buffer_case, BesideCase, beside_case}
 use Rattle.plan.proofs.MarkCases.{MarksCase, marks_case}
 use Rattle.plan.proofs.SumCases.{SumsCase, sums_case}
@@ -12,7 +13,7 @@ use Rattle.plan.proofs.OrderCases.{OrderCase, order_case}
 
 -- all of them: 'gathered as one checked list'
 pub proved_cases :
-    FourCase × TableCase × OtherCases × BufferCase × DemandCase × HeaderQuestionCase × FileQuestionCase × FitCase × GuaranteedCase × BesideBufferCase × BesideCase × MarksCase × SumsCase × AccidentsCase × ChargeCase
+    FourCase × TableCase × OtherCases × BufferCase × DemandCase × HeaderQuestionCase × FileQuestionCase × FitCase × SizeCase × BoundCase × GuaranteedCase × BesideBufferCase × BesideCase × MarksCase × SumsCase × AccidentsCase × ChargeCase
     × TenfoldCase × PlanCase × SoldCase × OrderCase
 proved_cases = (
   four_case,
@@ -23,6 +24,8 @@ proved_cases = (
   header_question_case,
   file_question_case,
   fit_case,
+  size_case,
+  bound_case,
   guaranteed_case,
   beside_buffer_case,
   beside_case,

@@ -2,6 +2,7 @@
 pub mod Groups
 pub mod BaseCases
 pub mod QuestionCases
+pub mod BoundCases
 pub mod GuaranteedCases
 pub mod MarkCases
 pub mod SumCases
