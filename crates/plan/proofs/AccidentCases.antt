@@ -17,6 +17,7 @@ use Rattle.plan.specs.Demand3.{total_with, taxed_expenses_and_losses}
 use Rattle.plan.specs.Comparison.{compare}
 use Rattle.plan.specs.Accidents.{accidents_of}
 use Rattle.plan.proofs.Groups.{header, group, Written, four_file, rates, totals, limiteds, stock, four_joining, four_joining_file, scaffold_header, scaffold, scaffold_file, apart_file, single_file, accidents, accidents_file, leading, leading_file, leading_filled_file, leading_nothing, leading_nothing_file, four_rated}
+use Rattle.plan.proofs.FieldCases.{by_fields}
 
 abbrev pub AccidentsCase : Type 0
 AccidentsCase =
@@ -78,7 +79,7 @@ AccidentsCase =
 
 pub accidents_case : AccidentsCase
 unfolding bytes_of number bit field claim_width claim_at past_claim slots_of_claim count_at first_claim limited_of LG LH SX SS ratable basic_premium excess_charge nearest bill_rounding bill_with rated_of rate total_with taxed_expenses_and_losses table read write compare
-accidents_case = (
+accidents_case = by_fields (
   refl,
   refl,
   refl,

@@ -19,6 +19,7 @@ use Rattle.plan.specs.Demand3.{Demand3, total_with, taxed_expenses_and_losses, n
 use Rattle.plan.proofs.Groups.{longer_file, Written, four, four_file, thirds, thirds_file, halves, halves_file, tens, tens_file2000, tens_file1000, limits, limits_file, rates, tables, totals, limiteds, ratables, lg, four_premiums}
 use lib.Signed.{◌≤ℤ◌}
 use lib.ListN.{replicate}
+use Rattle.plan.proofs.FieldCases.{by_fields}
 
 -- the group of four, as `retro` prints it: 'group 4 6700000 3300000 33600', then risk number, L, A, K and premium
 abbrev pub FourCase : Type 0
@@ -39,7 +40,7 @@ FourCase =
 
 pub four_case : FourCase
 unfolding bytes_of number bit field claim_width claim_at past_claim slots_of_claim count_at first_claim limited_of LG LH SX SS ratable basic_premium excess_charge nearest bill_rounding bill_with rated_of rate total_with taxed_expenses_and_losses read write
-four_case = (refl, refl, refl, refl, refl, refl, refl, refl, refl, refl, refl)
+four_case = by_fields (refl, refl, refl, refl, refl, refl, refl, refl, refl, refl, refl)
 
 -- 'Table on it: r 0 gives 1000 and 0; r 100 gives 321 and 321; r 200 gives 71 and 1071; r 300 gives 0 and 2000.' And r 25, where
 -- 812.5 and 62.5 thousandths are exact halves
@@ -53,7 +54,7 @@ TableCase =
 
 pub table_case : TableCase
 unfolding number bit field claim_width claim_at past_claim count_at first_claim limited_of nearest charge_sum savings_sum charge savings table
-table_case = (refl, refl, refl, refl, refl)
+table_case = by_fields (refl, refl, refl, refl, refl)
 
 -- the other groups
 abbrev pub OtherCases : Type 0
@@ -83,8 +84,7 @@ OtherCases =
 
 pub other_cases : OtherCases
 unfolding bytes_of number bit field claim_width claim_at past_claim slots_of_claim count_at first_claim limited_of LG LH SX SS ratable basic_premium excess_charge nearest bill_rounding bill_with rated_of rate total_with taxed_expenses_and_losses
-other_cases =
-    (refl, refl, refl, refl, refl, refl, refl, refl, refl, refl, refl, refl, refl, refl, refl, refl, refl)
+other_cases = by_fields (refl, refl, refl, refl, refl, refl, refl, refl, refl, refl, refl, refl, refl, refl, refl, refl, refl)
 
 -- 'Later bytes of the buffer keep their contents': what lent buffers hold after a call on the group of four, each one entry longer than it
 -- need be, and the lent length after Write; and that a refusal keeps them
@@ -105,7 +105,7 @@ BufferCase =
 
 pub buffer_case : BufferCase
 unfolding bytes_of number bit field claim_width claim_at past_claim slots_of_claim count_at first_claim limited_of LG LH SX SS ratable basic_premium excess_charge nearest bill_rounding bill_with rated_of rate total_with taxed_expenses_and_losses read write
-buffer_case = (refl, refl, refl, refl, refl, refl, refl, refl, refl, refl, refl, refl)
+buffer_case = by_fields (refl, refl, refl, refl, refl, refl, refl, refl, refl, refl, refl, refl)
 
 -- what demand 3 says of the group of four, field by field, another basic premium being 0; and how near the bills are where each is half a
 -- dollar above what is owed, and where none is billed
@@ -125,7 +125,7 @@ DemandCase =
 
 pub demand_case : DemandCase
 unfolding bytes_of number bit field claim_width claim_at past_claim slots_of_claim count_at first_claim limited_of LG LH SX SS ratable basic_premium excess_charge nearest bill_rounding bill_with rated_of rate total_with taxed_expenses_and_losses read write
-demand_case = (
+demand_case = by_fields (
   λ b. (b.basic_after, b.excess_is, b.premiums_are, b.billed_is, b.total, b.no_other (pos 0), b.not_above, b.not_below),
   λ b. b.not_above,
   λ b. b.not_below,

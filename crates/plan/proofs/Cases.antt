@@ -1,5 +1,6 @@
 -- 'Proved cases, with the group above as the first': one list, over literal bytes and numbers, computed by the prover. Each group's bytes
 -- are also the file that its values make; one file has a fill bit set, which no values make. Values that document 01 leaves open are in docs/DECISIONS.md. Assumes nothing.
+use Rattle.plan.proofs.FieldCases.{FieldCase, field_case}
 use Rattle.plan.proofs.BaseCases.{FourCase, four_case, TableCase, table_case, OtherCases, other_cases, BufferCase, buffer_case, DemandCase, demand_case}
 use Rattle.plan.proofs.QuestionCases.{HeaderQuestionCase, header_question_case, FileQuestionCase, file_question_case, FitCase, fit_case}
 use Rattle.plan.proofs.BoundCases.{SizeCase, size_case, BoundCase, bound_case}
@@ -13,9 +14,10 @@ use Rattle.plan.proofs.OrderCases.{OrderCase, order_case}
 
 -- all of them: 'gathered as one checked list'
 pub proved_cases :
-    FourCase × TableCase × OtherCases × BufferCase × DemandCase × HeaderQuestionCase × FileQuestionCase × FitCase × SizeCase × BoundCase × GuaranteedCase × BesideBufferCase × BesideCase × MarksCase × SumsCase × AccidentsCase × ChargeCase
+    FieldCase × FourCase × TableCase × OtherCases × BufferCase × DemandCase × HeaderQuestionCase × FileQuestionCase × FitCase × SizeCase × BoundCase × GuaranteedCase × BesideBufferCase × BesideCase × MarksCase × SumsCase × AccidentsCase × ChargeCase
     × TenfoldCase × PlanCase × SoldCase × OrderCase
 proved_cases = (
+  field_case,
   four_case,
   table_case,
   other_cases,

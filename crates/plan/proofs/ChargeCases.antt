@@ -10,6 +10,7 @@ use lib.Dec.{leb}
 use Rattle.plan.specs.Matrix.{row_off, row_tolerance}
 use Prim.Native.Nat.{ℕ, ◌*◌, ◌<◌, ◌≤◌}
 use Rattle.plan.specs.Doubles.{whole}
+use Rattle.plan.proofs.FieldCases.{by_fields}
 
 abbrev pub ChargeCase : Type 0
 ChargeCase =
@@ -50,7 +51,7 @@ ChargeCase =
 
 pub charge_case : ChargeCase
 unfolding charge_double charge1965 exact_denominator thousandths greatest add mul div le of_int of_bits
-charge_case = (
+charge_case = by_fields (
   refl,
   refl,
   refl,
@@ -98,4 +99,4 @@ TenfoldCase =
 
 pub tenfold_case : TenfoldCase
 unfolding charge_double charge1965 exact_denominator thousandths greatest add mul div le of_int of_bits
-tenfold_case = (λ x n b. (b.within, b.tenfold refl), λ w. w, λ w. w, refl, refl, refl, refl)
+tenfold_case = by_fields (λ x n b. (b.within, b.tenfold refl), λ w. w, λ w. w, refl, refl, refl, refl)

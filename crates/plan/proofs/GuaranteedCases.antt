@@ -19,6 +19,7 @@ use lib.IntN.{negsuc, pos, ◌-ℤ◌}
 use lib.Signed.{◌≤ℤ◌, ◌<ℤ◌}
 use lib.ListN.{replicate}
 use mathlib.Core.Bool.{true}
+use Rattle.plan.proofs.FieldCases.{by_fields}
 
 abbrev pub GuaranteedCase : Type 0
 GuaranteedCase =
@@ -51,7 +52,7 @@ GuaranteedCase =
 
 pub guaranteed_case : GuaranteedCase
 unfolding number bit field claim_width claim_at past_claim count_at first_claim limited_of LG LH SX SS ratable basic_premium excess_charge nearest bill_rounding bill_with rated_of discount guaranteed_cost comparison_of compare
-guaranteed_case = (refl, refl, refl, refl, refl, refl, refl, refl, refl, refl, refl, refl, refl, refl, refl, refl, refl, refl)
+guaranteed_case = by_fields (refl, refl, refl, refl, refl, refl, refl, refl, refl, refl, refl, refl, refl, refl, refl, refl, refl, refl)
 
 -- its two buffers after the call, each longer than it need be; and after refusals, which keep them
 abbrev pub BesideBufferCase : Type 0
@@ -63,7 +64,7 @@ BesideBufferCase =
 
 pub beside_buffer_case : BesideBufferCase
 unfolding bytes_of number bit field claim_width claim_at past_claim count_at first_claim limited_of LG LH SX SS ratable basic_premium excess_charge nearest bill_rounding bill_with rated_of discount guaranteed_cost comparison_of compare
-beside_buffer_case = (refl, refl, refl, refl)
+beside_buffer_case = by_fields (refl, refl, refl, refl)
 
 -- what the call promises beside Rate, of the group of four, field by field
 abbrev pub BesideCase : Type 0
@@ -83,7 +84,7 @@ BesideCase =
 
 pub beside_case : BesideCase
 unfolding number bit field claim_width claim_at past_claim count_at first_claim limited_of LG LH SX SS ratable basic_premium excess_charge nearest bill_rounding bill_with rated_of discount guaranteed_cost comparison_of compare
-beside_case = λ b. (
+beside_case = by_fields (λ b. (
   b.discount_most,
   b.less_discount,
   b.differences_are,
@@ -95,4 +96,4 @@ beside_case = λ b. (
   b.summed,
   b.total,
   b.as_rated,
-)
+))

@@ -14,6 +14,7 @@ use Rattle.plan.specs.Basic.{basic_premium, excess_charge}
 use Rattle.plan.specs.Premium.{bill_rounding, bill_with}
 use Rattle.plan.specs.Comparison.{compare}
 use Rattle.plan.proofs.Groups.{group, Written, rates, lg, lh, stock, marked, crossing, crossing_file1, crossing_file1000, entry_file, equal_file, above_file, no_risks_file}
+use Rattle.plan.proofs.FieldCases.{by_fields}
 
 abbrev pub MarksCase : Type 0
 MarksCase =
@@ -49,5 +50,4 @@ MarksCase =
 
 pub marks_case : MarksCase
 unfolding bytes_of number bit field claim_width claim_at past_claim slots_of_claim count_at first_claim limited_of LG LH SX SS ratable basic_premium excess_charge nearest bill_rounding bill_with rated_of rate table read write compare
-marks_case =
-    (refl, refl, refl, refl, refl, refl, refl, refl, refl, refl, refl, refl, refl, refl, refl, refl, refl, refl, refl, refl, refl, refl, refl)
+marks_case = by_fields (refl, refl, refl, refl, refl, refl, refl, refl, refl, refl, refl, refl, refl, refl, refl, refl, refl, refl, refl, refl, refl, refl, refl)

@@ -15,6 +15,7 @@ use Rattle.plan.specs.Basic.{basic_premium, excess_charge}
 use Rattle.plan.specs.Premium.{bill_rounding, bill_with}
 use Rattle.plan.specs.Comparison.{compare}
 use Rattle.plan.proofs.Groups.{header, group, Written, rates, lg, lh, stock, marked, half_file, next_entry_file, next_loss_file, expense_file}
+use Rattle.plan.proofs.FieldCases.{by_fields}
 
 abbrev pub OrderCase : Type 0
 OrderCase =
@@ -42,5 +43,4 @@ OrderCase =
 
 pub order_case : OrderCase
 unfolding bytes_of number bit field claim_width claim_at past_claim slots_of_claim count_at first_claim limited_of LG LH SX SS ratable basic_premium excess_charge nearest bill_rounding bill_with rated_of rate compare
-order_case =
-    (refl, refl, refl, refl, refl, refl, refl, refl, refl, refl, refl, refl, refl, refl, refl, refl, refl)
+order_case = by_fields (refl, refl, refl, refl, refl, refl, refl, refl, refl, refl, refl, refl, refl, refl, refl, refl, refl)

@@ -15,6 +15,7 @@ use Rattle.plan.specs.Demand3.{taxed_expenses_and_losses}
 use Rattle.plan.specs.SoldOnPremiums.{premiums_at, halvings, plan_for, Sold, Finished, SoldAfter, bound_questions}
 use Rattle.plan.proofs.Groups.{four_file, tens_file2000, crossing_file1, plans, unbounded}
 use Rattle.plan.specs.Questions.{passed, first_no}
+use Rattle.plan.proofs.FieldCases.{by_fields}
 
 abbrev pub PlanCase : Type 0
 PlanCase =
@@ -49,8 +50,7 @@ PlanCase =
 
 pub plan_case : PlanCase
 unfolding number bit field claim_width claim_at past_claim count_at first_claim limited_of LG LH SX SS ratable basic_premium excess_charge nearest taxed_expenses_and_losses premiums_at halvings plan_for
-plan_case =
-    (refl, refl, refl, refl, refl, refl, refl, refl, refl, refl, refl, refl, refl, refl, refl, refl, refl, refl, refl)
+plan_case = by_fields (refl, refl, refl, refl, refl, refl, refl, refl, refl, refl, refl, refl, refl, refl, refl, refl, refl, refl, refl)
 
 -- what is promised of a plan, field by field: by Rate's own bounds, the most that a finished plan is over by, and of a refusal by 23
 abbrev pub SoldCase : Type 0
@@ -72,7 +72,7 @@ SoldCase =
 
 pub sold_case : SoldCase
 unfolding number bit field claim_width claim_at past_claim count_at first_claim limited_of LG LH SX SS ratable basic_premium excess_charge nearest taxed_expenses_and_losses premiums_at halvings plan_for
-sold_case = (
+sold_case = by_fields (
   λ b. (b.in_range, b.best_reaches, b.short_falls, b.made_is, b.distance_is, b.finishes, b.never_falls, b.least),
   λ b. b.over_by,
   λ b. (b.none, b.only),

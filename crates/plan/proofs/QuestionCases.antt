@@ -17,6 +17,7 @@ use Rattle.plan.specs.Questions.{ask, question1, question2, question3, question4
 use Rattle.plan.specs.Questions.{question12, question14, question15, question18, question19, header_fits}
 use Rattle.plan.proofs.Groups.{header, group, thirds_file, tens, accidents_file, leading_file}
 use Rattle.plan.proofs.Groups.{tens_file1000, tens_file2000}
+use Rattle.plan.proofs.FieldCases.{by_fields}
 
 -- header values that pass, but for the conversion factor, the tax multiplier and the marks that are given
 abbrev with_factors : ℕ → ℕ → ℕ → ℕ → Header
@@ -56,7 +57,7 @@ HeaderQuestionCase =
 
 pub header_question_case : HeaderQuestionCase
 unfolding number bit field
-header_question_case = (
+header_question_case = by_fields (
   refl,
   refl,
   refl,
@@ -104,7 +105,7 @@ FileQuestionCase =
 
 pub file_question_case : FileQuestionCase
 unfolding number bit field claim_width claim_at past_claim count_at first_claim limited_of LG LH SX SS ratable basic_premium
-file_question_case = (refl, refl, refl, refl, refl, refl, refl, refl, refl, refl, refl, refl, refl)
+file_question_case = by_fields (refl, refl, refl, refl, refl, refl, refl, refl, refl, refl, refl, refl, refl)
 
 abbrev pub FitCase : Type 0
 FitCase =
@@ -129,5 +130,4 @@ FitCase =
     × (question15 (group (header 1048576 1 0 1000 10000 0 0 0) (1 ∷ []) (0 ∷ [])) ≡ ask 15 false)
 
 pub fit_case : FitCase
-fit_case =
-    (refl, refl, refl, refl, refl, refl, refl, refl, refl, refl, refl, refl, refl, refl, refl, refl, refl)
+fit_case = by_fields (refl, refl, refl, refl, refl, refl, refl, refl, refl, refl, refl, refl, refl, refl, refl, refl, refl)

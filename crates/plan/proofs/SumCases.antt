@@ -6,6 +6,7 @@ use Rattle.plan.specs.Field.{bit, number, field}
 use Rattle.plan.specs.Claim.{claim_width, claim_at, past_claim}
 use Rattle.plan.specs.Risk.{count_at, first_claim}
 use Rattle.plan.proofs.Groups.{four_file, so_far}
+use Rattle.plan.proofs.FieldCases.{by_fields}
 
 -- 'after each risk it is the sum of A so far', and the same of L: risk 1 has no claims, and after risk 4 they are SA and SL
 abbrev pub SumsCase : Type 0
@@ -17,4 +18,4 @@ SumsCase =
 
 pub sums_case : SumsCase
 unfolding number bit field claim_width claim_at past_claim count_at first_claim limited_of
-sums_case = (refl, refl, refl, refl)
+sums_case = by_fields (refl, refl, refl, refl)
