@@ -3,7 +3,8 @@
 use mathlib.Core.Path.{◌≡◌, refl}
 use mathlib.Core.Bool.{true, false}
 use mathlib.Core.List.{[], ◌∷◌}
-use Rattle.plan.specs.Field.{bit, number, field, fields, slots, digits, bytes_of, fits, all_fit}
+use Prim.Native.Nat.{ℕ, ◌<◌}
+use Rattle.plan.specs.Field.{bit, number, field, fields, slots, digits, bytes_of, fits, all_fit, Laid, Fitting}
 use Rattle.plan.specs.Header.{edition_field, loss_limit_field, standard_premium_field, expense_field, conversion_field, tax_field}
 use Rattle.plan.specs.Header.{mark_kind_field, maximum_mark_field, minimum_mark_field, risks_field, spare_field, header_bits}
 use Rattle.plan.specs.Header.{header_of, edition_of, risk_count}
@@ -28,6 +29,8 @@ FieldCase =
     × (fits 4 16 ≡ false)
     × (all_fit 4 (15 ∷ 15 ∷ []) ≡ true)
     × (all_fit 4 (16 ∷ 15 ∷ []) ≡ false)
+    × Laid (18 ∷ 52 ∷ []) 4 (slots 4 (2 ∷ 3 ∷ []))
+    × ((v : ℕ) → Fitting (slots 4 (v ∷ [])) → (v < 16) × Unit {0})
     -- where each field of the header begins, 'widths in bits', and 'The header has 128 bits'
     × (edition_field.at
     ∷ loss_limit_field.at
@@ -86,6 +89,8 @@ field_case = (
   refl,
   refl,
   refl,
+  (refl, (refl, tt)),
+  λ v fit. fit,
   refl,
   refl,
   refl,
