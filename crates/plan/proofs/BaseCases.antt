@@ -4,7 +4,7 @@ use mathlib.Core.Path.{◌≡◌, refl}
 use mathlib.Core.List.{[], ◌∷◌, ◌++◌}
 use Prim.Native.Nat.{◌*◌, ◌+◌, ◌-◌}
 use lib.IntN.{pos, negsuc}
-use Rattle.plan.specs.Losses.{limited_of}
+use Rattle.plan.specs.Losses.{limited_of, losses_in}
 use Rattle.plan.specs.Marks.{LG, LH}
 use Rattle.plan.specs.Ratable.{ratable, SX, SS}
 use Rattle.plan.specs.Table.{charge, savings, charge_sum, savings_sum}
@@ -16,7 +16,7 @@ use Rattle.plan.specs.Risk.{count_at, first_claim}
 use Rattle.plan.specs.Basic.{basic_premium, excess_charge}
 use Rattle.plan.specs.Premium.{bill_rounding, bill_with, bill_of}
 use Rattle.plan.specs.Demand3.{Demand3, total_with, taxed_expenses_and_losses, numbers_in}
-use Rattle.plan.proofs.Groups.{longer_file, Written, four, four_file, thirds, thirds_file, halves, halves_file, tens, tens_file2000, tens_file1000, limits, limits_file, rates, tables, totals, limiteds, ratables, lg, four_premiums}
+use Rattle.plan.proofs.Groups.{header, longer_file, Written, four, four_file, thirds, thirds_file, halves, halves_file, tens, tens_file2000, tens_file1000, limits, limits_file, rates, tables, totals, limiteds, ratables, lg, four_premiums}
 use lib.Signed.{◌≤ℤ◌}
 use lib.ListN.{replicate}
 use Rattle.plan.proofs.FieldCases.{by_fields}
@@ -78,13 +78,15 @@ OtherCases =
     -- 'both count 5,000'
     × Written limits limits_file
     × (limiteds limits_file ≡ 5000 ∷ 5000 ∷ [])
+    -- what A lacks, where the limit cut off what L would not lack: LH is 6,000, and L of the third risk 7,000
+    × (SS (header 5000 10000 2000 1100 10500 0 900 600) (losses_in four_file) ≡ 6000 + 2000 + 1000)
     -- a negative premium, which question 12 keeps out, is billed as 0
     × (bill_of (negsuc 4) 10 ≡ 0)
     × (lg limits_file ≡ 30000)
 
 pub other_cases : OtherCases
 unfolding bytes_of number bit field claim_width claim_at past_claim slots_of_claim count_at first_claim limited_of LG LH SX SS ratable basic_premium excess_charge nearest bill_rounding bill_with rated_of rate total_with taxed_expenses_and_losses
-other_cases = by_fields (refl, refl, refl, refl, refl, refl, refl, refl, refl, refl, refl, refl, refl, refl, refl, refl, refl)
+other_cases = by_fields (refl, refl, refl, refl, refl, refl, refl, refl, refl, refl, refl, refl, refl, refl, refl, refl, refl, refl)
 
 -- 'Later bytes of the buffer keep their contents': what lent buffers hold after a call on the group of four, each one entry longer than it
 -- need be, and the lent length after Write; and that a refusal keeps them
