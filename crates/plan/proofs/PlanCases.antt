@@ -1,7 +1,7 @@
 -- The cases of document 02, job 6, on the group of four: M ÷ (1,000 × n) is 1,675, and the taxed expenses and losses are 33,600.
 use mathlib.Core.Path.{◌≡◌, refl}
 use Prim.Native.Nat.{◌*◌, ◌-◌, ◌+◌, ◌<◌, ◌≤◌, ℕ, ◌^◌, min}
-use lib.IntN.{pos, negsuc, ◌-ℤ◌}
+use lib.IntN.{ℤ, pos, negsuc, ◌-ℤ◌}
 use Rattle.plan.specs.Losses.{limited_of}
 use Rattle.plan.specs.Marks.{LG, LH}
 use Rattle.plan.specs.Ratable.{ratable, SX, SS}
@@ -69,6 +69,7 @@ SoldCase =
     × (SoldAfter (plan_for four_file 8399 0 20) four_file 8399 0 20 0 0 (pos 0)
     → (◌≡◌ {A = ℕ} 23 23 → (b : ℕ) → b ≤ 1048575 → premiums_at four_file 8399 0 b < 10000000 * 4 * 33600)
     × (first_no (bound_questions four_file 8399 0) ≡ passed → ◌≡◌ {A = ℕ} 23 23))
+    × ((best : ℕ) (short : ℤ) → Finished best short → pos best -ℤ short ≡ pos 1)
 
 pub sold_case : SoldCase
 unfolding number bit field claim_width claim_at past_claim count_at first_claim limited_of LG LH SX SS ratable basic_premium excess_charge nearest taxed_expenses_and_losses premiums_at halvings plan_for
@@ -76,4 +77,5 @@ sold_case = by_fields (
   λ b. (b.in_range, b.best_reaches, b.short_falls, b.made_is, b.distance_is, b.finishes, b.never_falls, b.least),
   λ b. b.over_by,
   λ b. (b.none, b.only),
+  λ best short f. f,
 )
