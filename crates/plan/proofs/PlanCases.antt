@@ -70,6 +70,8 @@ SoldCase =
     → (◌≡◌ {A = ℕ} 23 23 → (b : ℕ) → b ≤ 1048575 → premiums_at four_file 8399 0 b < 10000000 * 4 * 33600)
     × (first_no (bound_questions four_file 8399 0) ≡ passed → ◌≡◌ {A = ℕ} 23 23))
     × ((best : ℕ) (short : ℤ) → Finished best short → pos best -ℤ short ≡ pos 1)
+    -- of 10 trials 10 are made
+    × (Sold four_file 13020 4935 10 10 2047 (pos 1023) → ◌≡◌ {A = ℕ} 10 10)
 
 pub sold_case : SoldCase
 unfolding number bit field claim_width claim_at past_claim count_at first_claim limited_of LG LH SX SS ratable basic_premium excess_charge nearest taxed_expenses_and_losses premiums_at halvings plan_for
@@ -78,4 +80,5 @@ sold_case = by_fields (
   λ b. b.over_by,
   λ b. (b.none, b.only),
   λ best short f. f,
+  λ b. b.made_is,
 )
