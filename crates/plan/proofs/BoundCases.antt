@@ -4,7 +4,7 @@ use mathlib.Core.List.{List}
 use Prim.Native.Nat.{ℕ, ◌+◌, ◌-◌, ◌*◌, ◌/◌, ◌^◌, ◌≤◌, ◌<◌}
 use lib.IntN.{nat_abs}
 use lib.ListN.{length}
-use Rattle.plan.specs.Sizes.{most_risks, most_claims, largest_claim, most_claim_width, largest_expense, most_risk_losses}
+use Rattle.plan.specs.Sizes.{premium_scale, half_dollar, most_risks, most_claims, largest_claim, most_claim_width, largest_expense, most_risk_losses}
 use Rattle.plan.specs.Sizes.{most_group_losses, most_risk_bits, most_file_bits, largest_file, most_dollars, most_shared}
 use Rattle.plan.specs.Header.{Header}
 use Rattle.plan.specs.Losses.{Losses, SA, SL}
@@ -13,7 +13,8 @@ use Rattle.plan.specs.Bounds.{HeaderSound, GroupBounds, TermsBounds}
 
 abbrev pub SizeCase : Type 0
 SizeCase =
-    (most_risks ≡ 2 ^ 8 - 1)
+    (2 * half_dollar ≡ premium_scale)
+    × (most_risks ≡ 2 ^ 8 - 1)
     × (most_claims ≡ 2 ^ 6 - 1)
     × (largest_claim ≡ 2 ^ 20 - 1)
     × (most_claim_width ≡ 1 + 20)
@@ -27,7 +28,7 @@ SizeCase =
     × (most_shared ≡ 1000 * (1048575 + 66060225))
 
 pub size_case : SizeCase
-size_case = (refl, refl, refl, refl, refl, refl, refl, refl, refl, refl, refl, refl)
+size_case = (refl, refl, refl, refl, refl, refl, refl, refl, refl, refl, refl, refl, refl)
 
 abbrev pub BoundCase : Type 0
 BoundCase =

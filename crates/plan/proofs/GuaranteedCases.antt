@@ -11,7 +11,7 @@ use Rattle.plan.specs.Claim.{claim_width, claim_at, past_claim}
 use Rattle.plan.specs.Risk.{count_at, first_claim}
 use Rattle.plan.specs.Basic.{basic_premium, excess_charge}
 use Rattle.plan.specs.Premium.{bill_rounding, bill_with}
-use Rattle.plan.specs.Discount.{discount, guaranteed_cost, widths_pass}
+use Rattle.plan.specs.Discount.{discount_sum, discount, guaranteed_cost, widths_pass}
 use Rattle.plan.specs.Comparison.{comparison_of, compare, BesideAfter, Sized, compare_premiums, compare_differences}
 use Rattle.plan.proofs.Groups.{four_file, tens_file2000, layer, stock, four_beside, four_numbers, four_premiums, four_differences, rates}
 use Prim.Native.Nat.{◌+◌, ℕ, ◌*◌, ◌≤◌}
@@ -38,6 +38,7 @@ GuaranteedCase =
     × (compare four_file (stock 0) 16 4 ≡ four_beside)
     × (compare four_file (stock 4294967295) 16 4 ≡ four_beside)
     -- without a layer
+    × (discount_sum [] 5 ≡ 0)
     × (discount [] 5 ≡ 0)
     × (widths_pass [] ≡ true)
     -- a width of 1 passes
@@ -52,7 +53,7 @@ GuaranteedCase =
 
 pub guaranteed_case : GuaranteedCase
 unfolding number bit field claim_width claim_at past_claim count_at first_claim limited_of LG LH SX SS ratable basic_premium excess_charge nearest bill_rounding bill_with rated_of discount guaranteed_cost comparison_of compare
-guaranteed_case = by_fields (refl, refl, refl, refl, refl, refl, refl, refl, refl, refl, refl, refl, refl, refl, refl, refl, refl, refl)
+guaranteed_case = by_fields (refl, refl, refl, refl, refl, refl, refl, refl, refl, refl, refl, refl, refl, refl, refl, refl, refl, refl, refl)
 
 -- its two buffers after the call, each longer than it need be; and after refusals, which keep them
 abbrev pub BesideBufferCase : Type 0
