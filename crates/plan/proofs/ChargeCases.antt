@@ -7,7 +7,7 @@ use Rattle.plan.specs.Charge.{charge_double, greatest, thousandths, charge1965, 
 use Rattle.plan.proofs.Groups.{charged}
 use mathlib.Core.Bool.{true, false}
 use lib.Dec.{leb}
-use Rattle.plan.specs.Matrix.{row_off, row_tolerance}
+use Rattle.plan.specs.Matrix.{row_off, row_tolerance, RowSumRule}
 use Prim.Native.Nat.{ℕ, ◌*◌, ◌<◌, ◌≤◌}
 use Rattle.plan.specs.Doubles.{whole}
 use Rattle.plan.proofs.FieldCases.{by_fields}
@@ -32,6 +32,19 @@ ChargeCase =
     -- here r × (r × ..), 1 + (r + ..), powers, h × 0.01, and coefficients times 0.0000001 or divided once, each give another double
     × (charge1965 50 332 ≡ charged 0x3fc6_8702_7cde_7b61 176)
     × (charge1965 51 357 ≡ charged 0x3fc5_f5cd_f127_b983 172)
+    -- the other columns, each at one entry ratio: of a coefficient one ten-millionth more or less the double is another
+    × (charge1965 37 137 ≡ charged 0x3fd0_fcfd_8e25_9304 265)
+    × (charge1965 38 137 ≡ charged 0x3fd1_aa85_ceb7_285c 276)
+    × (charge1965 39 137 ≡ charged 0x3fd2_5b96_a915_1887 287)
+    × (charge1965 40 137 ≡ charged 0x3fd3_0ffc_6b1b_cd2f 298)
+    × (charge1965 41 137 ≡ charged 0x3fd3_c723_3188_ea43 309)
+    × (charge1965 42 137 ≡ charged 0x3fd4_810c_6c14_41aa 320)
+    × (charge1965 43 137 ≡ charged 0x3fd5_3c59_8de3_c56b 332)
+    × (charge1965 45 137 ≡ charged 0x3fd6_b6f3_57a8_1f09 355)
+    × (charge1965 46 137 ≡ charged 0x3fd7_74b4_4612_b4d5 366)
+    × (charge1965 47 137 ≡ charged 0x3fd8_34a5_72ff_21a1 378)
+    × (charge1965 48 137 ≡ charged 0x3fd8_f418_4f2c_5900 390)
+    × (charge1965 49 137 ≡ charged 0x3fd9_b680_ec7d_9df3 402)
     -- the exact denominator, times 10 ^ 23
     × (exact_denominator 36 0 ≡ pos 100000000000000000000000)
     × (exact_denominator 36 100 ≡ pos 277777790000000000000000)
@@ -82,6 +95,18 @@ charge_case = by_fields (
   refl,
   refl,
   refl,
+  refl,
+  refl,
+  refl,
+  refl,
+  refl,
+  refl,
+  refl,
+  refl,
+  refl,
+  refl,
+  refl,
+  refl,
 )
 
 -- what is promised of a charge, at r 1.00; and how far rows are off 1 ÷ column − 2: .40 by nothing, .48 by more than 1 ten-millionth
@@ -96,7 +121,8 @@ TenfoldCase =
     × (row_off 40 ≡ 0)
     × (row_off 48 ≡ 64)
     × (leb (row_off 48) (row_tolerance * 48) ≡ true)
+    × ((column : ℕ) → RowSumRule column → row_off column ≤ 2 * column)
 
 pub tenfold_case : TenfoldCase
 unfolding charge_double charge1965 exact_denominator thousandths greatest add mul div le of_int of_bits
-tenfold_case = by_fields (λ x n b. (b.within, b.tenfold refl), λ w. w, λ w. w, refl, refl, refl, refl)
+tenfold_case = by_fields (λ x n b. (b.within, b.tenfold refl), λ w. w, λ w. w, refl, refl, refl, refl, λ column rule. rule)
