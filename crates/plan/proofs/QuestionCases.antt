@@ -4,9 +4,9 @@ use mathlib.Core.Bool.{true, false}
 use mathlib.Core.List.{List, [], ◌∷◌, ◌++◌}
 use Prim.Native.Nat.{ℕ}
 use lib.ListN.{replicate, take}
-use Rattle.plan.specs.Field.{bit, number, field}
+use Rattle.plan.specs.Field.{bit, number, field, bytes_of}
 use Rattle.plan.specs.Header.{Header}
-use Rattle.plan.specs.Claim.{claim_width, claim_at, past_claim}
+use Rattle.plan.specs.Claim.{claim_width, claim_at, past_claim, slots_of_claim}
 use Rattle.plan.specs.Risk.{count_at, first_claim}
 use Rattle.plan.specs.File.{Group, risks_of}
 use Rattle.plan.specs.Losses.{limited_of, losses_in}
@@ -15,6 +15,7 @@ use Rattle.plan.specs.Ratable.{SX, SS, ratable}
 use Rattle.plan.specs.Basic.{basic_premium}
 use Rattle.plan.specs.Questions.{ask, question1, question2, question3, question4, question5, question6, question7, question8, question9, question10}
 use Rattle.plan.specs.Questions.{question12, question14, question15, question18, question19, header_fits}
+use Rattle.plan.specs.Questions.{passed, failed, first_no, write_questions}
 use Rattle.plan.proofs.Groups.{header, group, thirds_file, tens, accidents_file, leading_file}
 use Rattle.plan.proofs.Groups.{tens_file1000, tens_file2000}
 use Rattle.plan.proofs.FieldCases.{by_fields}
@@ -128,6 +129,10 @@ FitCase =
     × (question15 (counted (1 ∷ []) (1048576 ∷ [])) ≡ ask 15 false)
     × (question15 (counted (2 ∷ []) (0 ∷ [])) ≡ ask 15 false)
     × (question15 (group (header 1048576 1 0 1000 10000 0 0 0) (1 ∷ []) (0 ∷ [])) ≡ ask 15 false)
+    -- 'n is the number of counts': a risk without claims, and a claim without a risk
+    × (first_no (write_questions (counted (0 ∷ []) []) 17) ≡ passed)
+    × (first_no (write_questions (counted [] (0 ∷ [])) 17) ≡ failed 7)
 
 pub fit_case : FitCase
-fit_case = by_fields (refl, refl, refl, refl, refl, refl, refl, refl, refl, refl, refl, refl, refl, refl, refl, refl, refl)
+unfolding bytes_of slots_of_claim number bit field claim_width
+fit_case = by_fields (refl, refl, refl, refl, refl, refl, refl, refl, refl, refl, refl, refl, refl, refl, refl, refl, refl, refl, refl)
