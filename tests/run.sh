@@ -17,7 +17,11 @@ for compiler in cargo gcc g++ ar; do
     command -v "$compiler" >/dev/null || { echo "$compiler is not installed" >&2; exit 1; }
 done
 
-.ci/test-checks
+# the checks' own test beside the rest, since it waits for many small programs; what it says comes last
+said=$(mktemp)
+.ci/test-checks > "$said" 2>&1 &
+checks=$!
+trap 'kill "$checks" 2> /dev/null || true; rm -f "$said"' EXIT
 if [ "${1-}" != --built ]; then
     (cd crates/retro_c && rt lib)
     (cd crates/retro && rt run </dev/null)
@@ -25,3 +29,5 @@ fi
 cargo build --offline --release
 cargo test --offline --release
 tests/c/run.sh
+wait "$checks" || { cat "$said" >&2; exit 1; }
+cat "$said"

@@ -1,4 +1,4 @@
--- The file, field by field, on bytes so few that any reading of them ends. The other cases stand on these, since a count that is read
+-- The file, field by field, on bytes so few that any reading of them ends. The cases of groups stand on these, since a count that is read
 -- wrongly can be of more claims than anyone reads: where a case here is refused the prover computes none of those.
 use mathlib.Core.Path.{◌≡◌, refl}
 use mathlib.Core.Bool.{true, false}
