@@ -2,10 +2,14 @@
 //!
 //! The first line may be `edition 1` or `edition 2`; without it the edition is 1. The next line has
 //! the eight header values in file order. Then each risk has a line with its claims, or with `-`
-//! alone where it has none. Values are whole numbers in decimal digits with spaces between them,
-//! and the minimum mark is at most the maximum mark. In edition 2 a claim that belongs to the
-//! accident of the claim before it has a `+` before its digits. A blank line is a mistake wherever
-//! it stands: it could be a risk without claims, or nothing.
+//! alone where it has none. Values are whole numbers in decimal digits, and the minimum mark is at
+//! most the maximum mark. In edition 2 a claim that belongs to the accident of the claim before it
+//! has a `+` before its digits. A blank line is a mistake wherever it stands: it could be a risk
+//! without claims, or nothing.
+//!
+//! A line ends with a newline or a carriage return and a newline. Spaces and tabs separate the fields
+//! of a line, and nothing else does: not a no-break space, which may stand between thousands, nor a
+//! comma, nor a byte order mark before the first line.
 
 use crate::samples::Sample;
 use crate::second_rater::{Header, MOST_CLAIMS_PER_RISK, MOST_RISKS};
@@ -17,6 +21,9 @@ const EDITION: &str = "edition";
 const NO_CLAIMS: &str = "-";
 /// What a claim begins with that belongs to the accident of the claim before it.
 const JOINED: char = '+';
+/// What separates the fields of a line.
+const SEPARATORS: [u8; 2] = [b' ', b'\t'];
+const SEPARATE: &str = "only a space or a tab separates";
 
 /// A value of the text: its name, what it is counted in, the least and the most that it may be.
 struct Value {
@@ -127,37 +134,131 @@ fn print_line(mut words: Vec<String>) -> String {
     words.join(" ") + "\n"
 }
 
+/// A line of a text: its number, counted from 1, and its fields.
+struct Line<'a> {
+    number: usize,
+    fields: Vec<&'a str>,
+}
+
+impl<'a> Line<'a> {
+    /// The line of these bytes, of which a newline is the end. Its fields have letters, digits, `.`,
+    /// `-` and `+` alone.
+    fn of(bytes: &'a [u8], number: usize) -> Result<Line<'a>, Mistake> {
+        let line = bytes
+            .strip_suffix(b"\n")
+            .map_or(bytes, |line| line.strip_suffix(b"\r").unwrap_or(line));
+        let parts = line.split(|byte| SEPARATORS.contains(byte));
+        let mut fields = Vec::new();
+        for field in parts.filter(|part| !part.is_empty()) {
+            match foreign(field) {
+                None => fields.push(std::str::from_utf8(field).expect("it is ASCII")),
+                Some(what) => {
+                    let field = format!("field {}", fields.len() + 1);
+                    return Err(mistake(number, field, what));
+                }
+            }
+        }
+        Ok(Line { number, fields })
+    }
+}
+
+/// The first character of a field that no field has, and why it is none: what looks like a separator
+/// is not taken for one.
+fn foreign(field: &[u8]) -> Option<String> {
+    let of_a_field = |&c: &char| c.is_ascii_alphanumeric() || matches!(c, '.' | '-' | '+');
+    for chunk in field.utf8_chunks() {
+        if let Some(c) = chunk.valid().chars().find(|c| !of_a_field(c)) {
+            let what = match c.is_alphanumeric() {
+                true => "only 0 to 9 are digits",
+                false => SEPARATE,
+            };
+            return Some(format!("{}: {what}", name_of(c)));
+        }
+        if let Some(byte) = chunk.invalid().first() {
+            return Some(format!("byte {byte:02X}, which is no UTF-8: {SEPARATE}"));
+        }
+    }
+    None
+}
+
+/// A character by its number, and by its name or as it looks.
+fn name_of(c: char) -> String {
+    let name = NAMES.iter().find(|&&(named, _)| named == c);
+    let name = match name {
+        Some(&(_, name)) => name.to_string(),
+        None if c.is_ascii_graphic() || c.is_alphanumeric() => c.to_string(),
+        None => String::new(),
+    };
+    format!("U+{:04X} {name}", u32::from(c))
+        .trim_end()
+        .to_string()
+}
+
+/// Names of characters that are not seen, or taken for another, or that stand between thousands.
+const NAMES: [(char, &str); 39] = [
+    ('\u{0}', "null"),
+    ('\u{b}', "vertical tab"),
+    ('\u{c}', "form feed"),
+    ('\u{d}', "carriage return"),
+    ('\'', "apostrophe"),
+    (',', "comma"),
+    (';', "semicolon"),
+    ('_', "underscore"),
+    ('\u{85}', "next line"),
+    ('\u{a0}', "no-break space"),
+    ('\u{ad}', "soft hyphen"),
+    ('\u{66c}', "arabic thousands separator"),
+    ('\u{1680}', "ogham space mark"),
+    ('\u{2000}', "en quad"),
+    ('\u{2001}', "em quad"),
+    ('\u{2002}', "en space"),
+    ('\u{2003}', "em space"),
+    ('\u{2004}', "three-per-em space"),
+    ('\u{2005}', "four-per-em space"),
+    ('\u{2006}', "six-per-em space"),
+    ('\u{2007}', "figure space"),
+    ('\u{2008}', "punctuation space"),
+    ('\u{2009}', "thin space"),
+    ('\u{200a}', "hair space"),
+    ('\u{200b}', "zero width space"),
+    ('\u{200c}', "zero width non-joiner"),
+    ('\u{200d}', "zero width joiner"),
+    ('\u{2013}', "en dash"),
+    ('\u{2014}', "em dash"),
+    ('\u{2019}', "right single quotation mark"),
+    ('\u{2028}', "line separator"),
+    ('\u{2029}', "paragraph separator"),
+    ('\u{202f}', "narrow no-break space"),
+    ('\u{205f}', "medium mathematical space"),
+    ('\u{2060}', "word joiner"),
+    ('\u{2212}', "minus sign"),
+    ('\u{3000}', "ideographic space"),
+    ('\u{feff}', "byte order mark"),
+    ('\u{ff0c}', "fullwidth comma"),
+];
+
 /// The group of a text, which Write then takes, or the first mistake in it.
 pub fn parse(bytes: &[u8]) -> Result<Sample, Mistake> {
-    let text = std::str::from_utf8(bytes).map_err(|error| {
-        let before = &bytes[..error.valid_up_to()];
-        let line = 1 + before.iter().filter(|&&byte| byte == b'\n').count();
-        mistake(
-            line,
-            "text",
-            "not of letters, digits, spaces, - and + alone",
-        )
-    })?;
-    let mut lines = text.lines().zip(1..).peekable();
-    let of_edition = |&(line, _): &(&str, usize)| line.split_whitespace().next() == Some(EDITION);
-    let named = lines.next_if(of_edition);
-    let edition = match named {
-        None => 1,
-        Some((line, number)) => parse_edition(line, number)?,
-    };
-    let header_number = 1 + usize::from(named.is_some());
-    let line = lines.next().map_or("", |(line, _)| line);
-    let header = parse_header(line, header_number)?;
+    let ended = bytes.split_inclusive(|&byte| byte == b'\n').zip(1..);
+    let mut lines = ended.map(|(line, number)| Line::of(line, number));
+    let mut line = lines.next().transpose()?;
+    let (mut edition, mut number) = (1, 1);
+    let of_edition = |line: &&Line| line.fields.first() == Some(&EDITION);
+    if let Some(named) = line.as_ref().filter(of_edition) {
+        edition = parse_edition(named)?;
+        number += 1;
+        line = lines.next().transpose()?;
+    }
+    let header = parse_header(&line.map_or(Vec::new(), |line| line.fields), number)?;
     let (mut risks, mut joined) = (Vec::new(), Vec::new());
-    for (line, number) in lines {
-        let place = (number, risks.len() + 1);
-        let (claims, bits) = parse_risk(line, place, edition)?;
+    for line in lines {
+        let (claims, bits) = parse_risk(&line?, risks.len() + 1, edition)?;
         risks.push(claims);
         joined.push(bits);
     }
     if risks.is_empty() {
         let what = format!("missing; a group has 1 to {MOST_RISKS} risks");
-        return Err(mistake(header_number + 1, "risk 1", what));
+        return Err(mistake(number + 1, "risk 1", what));
     }
     Ok(Sample {
         header,
@@ -167,20 +268,19 @@ pub fn parse(bytes: &[u8]) -> Result<Sample, Mistake> {
 }
 
 /// The line of the edition.
-fn parse_edition(line: &str, number: usize) -> Result<u32, Mistake> {
-    match line.split_whitespace().collect::<Vec<_>>()[..] {
+fn parse_edition(line: &Line) -> Result<u32, Mistake> {
+    match line.fields[..] {
         [EDITION, "1"] => Ok(1),
         [EDITION, "2"] => Ok(2),
         _ => {
             let what = format!("a line with {EDITION} 1 or {EDITION} 2 alone, or no such line");
-            Err(mistake(number, EDITION, what))
+            Err(mistake(line.number, EDITION, what))
         }
     }
 }
 
-/// The line of the header values.
-fn parse_header(line: &str, number: usize) -> Result<Header, Mistake> {
-    let words: Vec<&str> = line.split_whitespace().collect();
+/// The line of the header values, by its fields and its number.
+fn parse_header(words: &[&str], number: usize) -> Result<Header, Mistake> {
     let mut numbers = [0; HEADER.len()];
     for (k, value) in HEADER.iter().enumerate() {
         let wrong = |what| mistake(number, value.name, what);
@@ -212,16 +312,11 @@ fn parse_header(line: &str, number: usize) -> Result<Header, Mistake> {
     })
 }
 
-/// The claims in the line of a risk, and their bits. The place is the number of the line and that
-/// of the risk, both counted from 1.
-fn parse_risk(
-    line: &str,
-    (number, risk): (usize, usize),
-    edition: u32,
-) -> Result<(Vec<u32>, Vec<u8>), Mistake> {
+/// The claims in the line of a risk, and their bits. The risks are counted from 1.
+fn parse_risk(line: &Line, risk: usize, edition: u32) -> Result<(Vec<u32>, Vec<u8>), Mistake> {
+    let &Line { number, ref fields } = line;
     let wrong = |what| mistake(number, format!("risk {risk}"), what);
-    let words: Vec<&str> = line.split_whitespace().collect();
-    if words.is_empty() {
+    if fields.is_empty() {
         return Err(wrong(format!(
             "a blank line; a risk without claims is a line with {NO_CLAIMS} alone"
         )));
@@ -230,16 +325,16 @@ fn parse_risk(
         return Err(wrong(format!("a group has 1 to {MOST_RISKS} risks")));
     }
     let (mut claims, mut joined) = (Vec::new(), Vec::new());
-    if words == [NO_CLAIMS] {
+    if fields[..] == [NO_CLAIMS] {
         return Ok((claims, joined));
     }
-    if words.len() > MOST_CLAIMS_PER_RISK {
-        let claims = words.len();
+    if fields.len() > MOST_CLAIMS_PER_RISK {
+        let claims = fields.len();
         return Err(wrong(format!(
             "{claims} claims; a risk has 0 to {MOST_CLAIMS_PER_RISK}"
         )));
     }
-    for (k, word) in words.iter().enumerate() {
+    for (k, word) in fields.iter().enumerate() {
         let wrong = |what| {
             let field = format!("{} {} of risk {risk}", CLAIM.name, k + 1);
             mistake(number, field, what)

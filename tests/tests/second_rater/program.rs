@@ -156,7 +156,7 @@ fn read_of_what_write_made_prints_the_same_text() {
 
 #[test]
 fn write_of_a_text_with_a_mistake_gives_no_byte() {
-    let cases: [(&[u8], &str); 7] = [
+    let cases: [(&[u8], &str); 9] = [
         (
             b"0 0 0 1000 10000 1 1000 0\n1\n",
             "line 1, standard premium: 0 is not a whole number from 1 to 4194303 (dollars)\n",
@@ -185,6 +185,14 @@ fn write_of_a_text_with_a_mistake_gives_no_byte() {
             b"edition 2\n0 1 0 1000 10000 1 1000 0\n1\n+1\n",
             "line 4, claim 1 of risk 2: +1 has no claim before it in the risk\n",
         ),
+        (
+            "0 1 0 1000 10000 1 1000 0\n1\n7\u{a0}000\n".as_bytes(),
+            "line 3, field 1: U+00A0 no-break space: only a space or a tab separates\n",
+        ),
+        (
+            "\u{feff}0 1 0 1000 10000 1 1000 0\n1\n".as_bytes(),
+            "line 1, field 1: U+FEFF byte order mark: only a space or a tab separates\n",
+        ),
     ];
     for (text, mistake) in cases {
         let output = run(&["write"], text);
@@ -205,7 +213,7 @@ fn write_of_equal_marks_makes_the_file() {
     );
 }
 
-/// README's text, its message and its mistake are those of the program.
+/// README's text, its message and its mistakes are those of the program.
 #[test]
 fn readme_shows_what_write_takes_and_says() {
     let readme = fs::read_to_string(repository().join("README.md")).unwrap();
@@ -213,9 +221,11 @@ fn readme_shows_what_write_takes_and_says() {
     assert!(readme.contains(&format!("printf '{typed}' > my.text\n")));
     let (_, said) = written(FOUR_RISKS.as_bytes());
     assert!(readme.contains(&format!("`{}`", said.trim_end())));
-    let mistaken = FOUR_RISKS.replace("10500", "1.05");
-    let said = String::from_utf8(run(&["write"], mistaken.as_bytes()).stderr).unwrap();
-    assert!(readme.contains(&format!("`{}`", said.trim_end())));
+    for (value, mistaken) in [("10500", "1.05"), ("3000", "3\u{a0}000")] {
+        let mistaken = FOUR_RISKS.replace(value, mistaken);
+        let said = String::from_utf8(run(&["write"], mistaken.as_bytes()).stderr).unwrap();
+        assert!(readme.contains(&format!("`{}`", said.trim_end())), "{said}");
+    }
 }
 
 /// A folder of a test's own, empty.

@@ -190,7 +190,6 @@ fn each_header_value_has_its_limits() {
             "18446744073709551616".to_string(),
             format!("+{least}"),
             "1.05".to_string(),
-            "5,000".to_string(),
             "-".to_string(),
             "x".to_string(),
         ] {
@@ -292,9 +291,146 @@ fn claims_and_risks_have_their_limits() {
         mistake(HEADER),
         "line 2, risk 1: missing; a group has 1 to 255 risks"
     );
-    let said = parse(b"5000 10000 2000 1100 10500 0 900 200\n-\n7\xff\n").unwrap_err();
+}
+
+/// What is said of a text with these bytes before it or, where there are words, in the place of the
+/// space after them.
+fn said_with(text: &str, words: &str, bytes: &[u8]) -> String {
+    let (before, after) = match words {
+        "" => ("", text),
+        _ => text.split_once(&format!("{words} ")).unwrap(),
+    };
+    let text = [before.as_bytes(), words.as_bytes(), bytes, after.as_bytes()].concat();
+    parse(&text).unwrap_err().to_string()
+}
+
+/// What may be taken for a separator and is none: in the place of a space, and before the first line.
+#[test]
+fn only_a_space_or_a_tab_separates() {
+    let (four_risks, scaffold) = (print(&four_risks()), print(&scaffold()));
+    for (character, name) in [
+        ("\u{a0}", "U+00A0 no-break space"),
+        ("\u{202f}", "U+202F narrow no-break space"),
+        ("\u{2009}", "U+2009 thin space"),
+        ("\u{3000}", "U+3000 ideographic space"),
+        ("\u{feff}", "U+FEFF byte order mark"),
+        ("\u{200b}", "U+200B zero width space"),
+        ("\u{b}", "U+000B vertical tab"),
+        ("\u{c}", "U+000C form feed"),
+        ("\r", "U+000D carriage return"),
+        ("\0", "U+0000 null"),
+        ("\u{85}", "U+0085 next line"),
+        ("\u{2028}", "U+2028 line separator"),
+        (",", "U+002C comma"),
+        ("'", "U+0027 apostrophe"),
+        ("\u{2019}", "U+2019 right single quotation mark"),
+        (";", "U+003B semicolon"),
+        ("_", "U+005F underscore"),
+        ("$", "U+0024 $"),
+        ("\u{20ac}", "U+20AC"),
+    ] {
+        let why = format!("{name}: only a space or a tab separates");
+        for (text, line) in [(&four_risks, 1), (&scaffold, 2)] {
+            let said = |words: &str, with: &str| said_with(text, words, with.as_bytes());
+            assert_eq!(said("", character), format!("line 1, field 1: {why}"));
+            // between two fields, beside one, and alone between two
+            let place = format!("line {line}, field 3: {why}");
+            assert_eq!(said("2000", character), place);
+            assert_eq!(said("2000", &format!("{character} ")), place);
+            let place = format!("line {line}, field 4: {why}");
+            assert_eq!(said("2000", &format!(" {character}")), place);
+            assert_eq!(said("2000", &format!(" {character}\t")), place);
+        }
+    }
+    // bytes that are no UTF-8: a no-break space, and the mark before a text, of other encodings
+    for (bytes, name) in [(&b"\xa0"[..], "A0"), (b"\xff\xfe", "FF")] {
+        let why = format!("byte {name}, which is no UTF-8: only a space or a tab separates");
+        let said = |words| said_with(&four_risks, words, bytes);
+        assert_eq!(said(""), format!("line 1, field 1: {why}"));
+        assert_eq!(said("900"), format!("line 1, field 7: {why}"));
+        assert_eq!(said("6000"), format!("line 5, field 2: {why}"));
+    }
+}
+
+/// A no-break space between the thousands of claims: they are not counted as two claims each.
+#[test]
+fn separated_thousands_are_no_claims() {
+    for character in ["\u{a0}", "\u{202f}", "\u{2009}", ",", "'", "\u{2019}"] {
+        let text = format!("{HEADER}\n-\n3{character}000 1{character}000\n7{character}000\n");
+        let said = mistake(&text);
+        assert!(said.starts_with("line 3, field 1: U+"), "{said}");
+        assert!(said.ends_with(": only a space or a tab separates"));
+        let text = format!("{HEADER}\n-\n3000 1000 {character}\n");
+        assert!(mistake(&text).starts_with("line 3, field 3: U+"));
+        // alone in its line it is no blank line, and no risk
+        let text = format!("{HEADER}\n-\n{character}\n");
+        assert!(mistake(&text).starts_with("line 3, field 1: U+"));
+    }
     assert_eq!(
-        said.to_string(),
-        "line 3, text: not of letters, digits, spaces, - and + alone"
+        mistake(&format!("{HEADER}\n3000 7\u{663}5\n")),
+        "line 2, field 2: U+0663 \u{663}: only 0 to 9 are digits"
+    );
+    assert_eq!(
+        mistake(&format!("\u{ff11}{HEADER}\n1\n")),
+        "line 1, field 1: U+FF11 \u{ff11}: only 0 to 9 are digits"
+    );
+    // the first such character is named, and a mistake of an earlier line before it
+    let said = mistake(&format!("{HEADER}\n3000\u{a0}4,000\n"));
+    assert!(said.starts_with("line 2, field 1: U+00A0 "), "{said}");
+    let said = mistake(&format!("{HEADER}\n-1\n3\u{a0}000\n"));
+    assert!(said.starts_with("line 2, claim 1 of risk 1: -1 is not "));
+}
+
+/// Lines end with a newline, or with a carriage return and a newline; a carriage return elsewhere is
+/// a mistake, at the end of the text too.
+#[test]
+fn a_line_ends_with_a_newline() {
+    let of_lines = |end: &str| format!("{HEADER}{end}-{end}3000 1000{end}7000{end}5000 6000 2000");
+    for text in [
+        of_lines("\n"),
+        of_lines("\r\n"),
+        of_lines("\n") + "\n",
+        of_lines("\r\n") + "\r\n",
+        of_lines("\n").replace(' ', "\t \t"),
+        of_lines(" \r\n "),
+    ] {
+        assert_eq!(parse(text.as_bytes()), Ok(four_risks()), "{text:?}");
+    }
+    let carriage_return = "U+000D carriage return: only a space or a tab separates";
+    for (text, place) in [
+        (of_lines("\r"), "line 1, field 8"),
+        (of_lines("\r\r\n"), "line 1, field 8"),
+        (of_lines("\n\r"), "line 2, field 1"),
+        (of_lines("\n") + "\r", "line 5, field 3"),
+    ] {
+        assert_eq!(mistake(&text), format!("{place}: {carriage_return}"));
+    }
+}
+
+/// Of all characters the space, the tab and the ends of lines alone may stand between two numbers: no
+/// other makes two claims of them, or one.
+#[test]
+fn no_other_character_is_taken() {
+    let mut between = Vec::new();
+    for character in '\0'..=char::MAX {
+        let text = format!("{HEADER}\n3000{character}4000\n");
+        match parse(text.as_bytes()) {
+            Ok(sample) => between.push((character, sample.risks)),
+            Err(mistake) => {
+                let of_a_field = character.is_ascii_alphanumeric() || "+-.".contains(character);
+                let name = format!("U+{:04X}", u32::from(character));
+                assert_eq!(mistake.line, 2);
+                assert_eq!(mistake.what.contains(&name), !of_a_field, "{mistake}");
+            }
+        }
+    }
+    let two = || vec![3_000, 4_000];
+    assert_eq!(
+        between,
+        [
+            ('\t', vec![two()]),
+            ('\n', vec![vec![3_000], vec![4_000]]),
+            (' ', vec![two()]),
+        ]
     );
 }
