@@ -9,7 +9,7 @@
 //! - `desk`: the benchmark's groups and buffers, and the calls on them.
 //! - `samples` and `generator`: known groups, schedules and bounds, generated ones, and damaged
 //!   files.
-//! - `text`: the text of a group, for people.
+//! - `text`: the text of a group, for people; `written`: group files made of it, read back.
 //! - `guard` and `held_calls`: memory between unreadable pages, and the calls held to the second
 //!   rater, to `charges_1965` or to `plans`, in it.
 //! - `comparison`: many generated inputs on all cores.
@@ -27,6 +27,7 @@ pub mod samples;
 pub mod second_rater;
 pub mod straightforward;
 pub mod text;
+pub mod written;
 
 use std::path::{Path, PathBuf};
 

@@ -54,6 +54,31 @@ const HEADER: [Value; 8] = [
     value("minimum mark", "thousandths", 0, 6_000),
 ];
 
+/// Their names.
+pub const HEADER_NAMES: [&str; HEADER.len()] = {
+    let mut names = [""; HEADER.len()];
+    let mut k = 0;
+    while k < names.len() {
+        names[k] = HEADER[k].name;
+        k += 1;
+    }
+    names
+};
+
+/// The header values in the same order.
+pub fn header_values(header: &Header) -> [u32; HEADER.len()] {
+    [
+        header.loss_limit,
+        header.standard_premium,
+        header.expense,
+        header.conversion,
+        header.tax,
+        header.mark_kind,
+        header.maximum_mark,
+        header.minimum_mark,
+    ]
+}
+
 const CLAIM: Value = value("claim", "dollars", 0, 1_048_575);
 
 impl fmt::Display for Value {
@@ -99,21 +124,11 @@ fn mistake(line: usize, field: impl Into<String>, what: impl Into<String>) -> Mi
 
 /// The text of a group.
 pub fn print(sample: &Sample) -> String {
-    let h = &sample.header;
-    let header = [
-        h.loss_limit,
-        h.standard_premium,
-        h.expense,
-        h.conversion,
-        h.tax,
-        h.mark_kind,
-        h.maximum_mark,
-        h.minimum_mark,
-    ];
     let mut text = match sample.edition() {
         1 => String::new(),
         edition => format!("{EDITION} {edition}\n"),
     };
+    let header = header_values(&sample.header);
     text.push_str(&print_line(header.map(|value| value.to_string()).to_vec()));
     let mut joined = sample.joined().into_iter();
     for claims in &sample.risks {

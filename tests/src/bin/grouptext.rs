@@ -6,6 +6,10 @@
 //! - `grouptext write [TEXT [FILE]]` makes the group file of a text, and says on standard error how
 //!   many risks and claims it has.
 //!
+//! All of it is the second rater's, which is not proved; what `write` has made is read back by
+//! `retro_read`, which is, and held to the text before anything is said. What is there of a file then
+//! is read back, and of what goes to standard output, to a device or to a pipe its bytes before.
+//!
 //! The text is the same both ways: eight header values in file order on the first line, then a line
 //! for each risk with its claims, or with `-` alone where it has none. In edition 2 there is a line
 //! `edition 2` before them, and a claim that belongs to the accident of the claim before it has a
@@ -17,19 +21,21 @@
 //!
 //! Exit status: 0; 1 where a text has a mistake, which is named on standard error with its line, or
 //! `read` is refused, with `refused K` on standard error; 2 for wrong usage, and for input that
-//! cannot be read or output that cannot be written. `rate` and `table` print `refused K` on standard
-//! output with exit status 0, as `retro` does.
+//! cannot be read or output that cannot be written; 3 where a file that was made is read back with
+//! another value than its text, which is named on standard error, and is not there then. `rate` and
+//! `table` print `refused K` on standard output with exit status 0, as `retro` does.
 
 #![forbid(unsafe_code)]
 
-use retro_tests::samples::Sample;
+use retro_tests::samples::{Sample, Values};
 use retro_tests::second_rater::{self, LARGEST_FILE, MOST_CLAIMS_PER_RISK, MOST_RISKS};
 use retro_tests::text;
+use retro_tests::written::{self, Failed};
 use std::env;
 use std::fs;
 use std::io::{self, Read, Write};
 use std::path::Path;
-use std::process::{self, ExitCode};
+use std::process::ExitCode;
 
 const USAGE: &str =
     "usage: grouptext rate [FILE] | table R [FILE] | read [FILE] | write [TEXT [FILE]]";
@@ -43,21 +49,20 @@ enum Stop {
     Usage(String),
     /// A text with a mistake, or a file that Read refuses.
     Refused(String),
+    /// A file that was made and, read back, has another value than its text.
+    Otherwise(String),
 }
 
 fn main() -> ExitCode {
     let arguments: Vec<String> = env::args().skip(1).collect();
-    match run(&arguments) {
-        Ok(()) => ExitCode::SUCCESS,
-        Err(Stop::Refused(text)) => {
-            eprintln!("{text}");
-            ExitCode::from(1)
-        }
-        Err(Stop::Usage(text)) => {
-            eprintln!("{text}");
-            ExitCode::from(2)
-        }
-    }
+    let (text, status) = match run(&arguments) {
+        Ok(()) => return ExitCode::SUCCESS,
+        Err(Stop::Refused(text)) => (text, 1),
+        Err(Stop::Usage(text)) => (text, 2),
+        Err(Stop::Otherwise(text)) => (text, 3),
+    };
+    eprintln!("{text}");
+    ExitCode::from(status)
 }
 
 /// Runs one subcommand.
@@ -88,34 +93,34 @@ fn input(name: &str) -> Result<Vec<u8>, Stop> {
     bytes.map_err(|error| Stop::Usage(format!("{name} cannot be read: {error}")))
 }
 
-/// Writes the whole output of this name.
-fn output(name: &str, bytes: &[u8]) -> Result<(), Stop> {
-    let written = if name == STANDARD {
-        let mut standard = io::stdout().lock();
-        standard.write_all(bytes).and_then(|()| standard.flush())
-    } else {
-        whole_file(Path::new(name), bytes)
-    };
-    written.map_err(|error| Stop::Usage(format!("{name} cannot be written: {error}")))
+/// Prints these bytes.
+fn print(bytes: &[u8]) -> Result<(), Stop> {
+    let mut standard = io::stdout().lock();
+    let printed = standard.write_all(bytes).and_then(|()| standard.flush());
+    printed.map_err(|error| unwritten(STANDARD, error))
 }
 
-/// Writes a file whole or not at all: under another name beside it, which then becomes its own.
-fn whole_file(path: &Path, bytes: &[u8]) -> io::Result<()> {
-    // the file itself where the path is a link to one
-    let path = fs::canonicalize(path).unwrap_or_else(|_| path.to_path_buf());
-    if path.exists() && !path.is_file() {
-        // a device or a pipe is not to be replaced by a file
-        return fs::write(path, bytes);
-    }
-    let name = path.file_name().ok_or(io::ErrorKind::NotFound)?;
-    let other = format!(".{}.{}", name.to_string_lossy(), process::id());
-    let beside = path.with_file_name(other);
-    let written = fs::write(&beside, bytes).and_then(|()| fs::rename(&beside, &path));
-    if written.is_err() {
-        // it may not be there at all
-        let _ = fs::remove_file(&beside);
-    }
-    written
+/// Writes the group file of these values to this name. What is printed is read back before.
+fn put(name: &str, file: &[u8], values: &Values) -> Result<(), Stop> {
+    let written = match name {
+        STANDARD => {
+            written::read_back(file, values).map_err(|what| otherwise(STANDARD, &what))?;
+            return print(file);
+        }
+        _ => written::put(Path::new(name), file, values),
+    };
+    written.map_err(|failed| match failed {
+        Failed::Unwritten(error) => unwritten(name, error),
+        Failed::Otherwise(what) => otherwise(name, &what),
+    })
+}
+
+fn unwritten(name: &str, error: io::Error) -> Stop {
+    Stop::Usage(format!("{name} cannot be written: {error}"))
+}
+
+fn otherwise(name: &str, what: &str) -> Stop {
+    Stop::Otherwise(format!("{name} is not written: read back, {what}"))
 }
 
 fn rate(file: &str) -> Result<(), Stop> {
@@ -123,7 +128,7 @@ fn rate(file: &str) -> Result<(), Stop> {
         Ok(rated) => second_rater::print_rated(&rated),
         Err(k) => second_rater::print_refused(k),
     };
-    output(STANDARD, lines.as_bytes())
+    print(lines.as_bytes())
 }
 
 fn table(r: &str, file: &str) -> Result<(), Stop> {
@@ -134,14 +139,14 @@ fn table(r: &str, file: &str) -> Result<(), Stop> {
         Ok((charge, savings)) => format!("{charge} {savings}\n"),
         Err(k) => second_rater::print_refused(k),
     };
-    output(STANDARD, line.as_bytes())
+    print(line.as_bytes())
 }
 
 fn read(file: &str) -> Result<(), Stop> {
     let most_claims = MOST_RISKS * MOST_CLAIMS_PER_RISK;
     let file = input(file)?;
     let group = second_rater::read(&file, MOST_RISKS, most_claims, most_claims).map_err(refused)?;
-    output(STANDARD, text::print(&Sample::of(&group)).as_bytes())
+    print(text::print(&Sample::of(&group)).as_bytes())
 }
 
 fn write(text: &str, file: &str) -> Result<(), Stop> {
@@ -149,7 +154,7 @@ fn write(text: &str, file: &str) -> Result<(), Stop> {
         text::parse(&input(text)?).map_err(|mistake| Stop::Refused(mistake.to_string()))?;
     let values = sample.values();
     let bytes = values.written(LARGEST_FILE).map_err(refused)?;
-    output(file, &bytes)?;
+    put(file, &bytes, &values)?;
     let (risks, claims) = (
         counted(values.counts.len(), "risk"),
         counted(values.claims.len(), "claim"),

@@ -1,9 +1,11 @@
 //! The program `grouptext`.
 
+use retro_tests::generator::Random;
 use retro_tests::samples::{
     crossed_marks, four_risks, largest, largest_of_edition_2, one_claim_of_one, scaffold,
-    ten_risks, FOUR_RISKS_PRINTED, SCAFFOLD_PRINTED,
+    ten_risks, Values, FOUR_RISKS_PRINTED, SCAFFOLD_PRINTED,
 };
+use retro_tests::written::read_back;
 use retro_tests::{repository, text};
 use std::io::Write;
 use std::path::{Path, PathBuf};
@@ -342,4 +344,166 @@ fn wrong_usage_has_exit_status_2() {
     let four = ["write", "-", "-", "-"];
     assert_eq!(run(&four, &[]).status.code(), Some(2));
     assert_eq!(run(&["read", "no-such.group"], &[]).status.code(), Some(2));
+}
+
+// ---- read back
+
+/// A group of either edition, and a file of it with one bit as its opposite: Read has another value of
+/// it, or refuses it.
+#[test]
+fn a_bent_bit_is_found_where_a_file_is_read_back() {
+    for sample in [four_risks(), scaffold(), one_claim_of_one(3)] {
+        let (mut file, values) = (sample.file(), sample.values());
+        assert_eq!(read_back(&file, &values), Ok(()));
+        for bit in 0..8 * file.len() {
+            let mask = 0x80 >> (bit % 8);
+            file[bit / 8] ^= mask;
+            let said = read_back(&file, &values).unwrap_err();
+            assert!(said.starts_with("retro_read "), "{bit}: {said}");
+            file[bit / 8] ^= mask;
+        }
+        for length in 0..file.len() {
+            assert!(read_back(&file[..length], &values).is_err());
+        }
+    }
+}
+
+/// A value of each kind that is another, by its name.
+#[test]
+fn the_first_value_that_differs_is_named() {
+    let of_values = |change: fn(&mut Values)| {
+        let mut values = scaffold().values();
+        change(&mut values);
+        read_back(&scaffold().file(), &values).unwrap_err()
+    };
+    let changes: [(fn(&mut Values), &str); 14] = [
+        (|values| values.edition = 1, "2 as edition, not 1"),
+        (
+            |values| values.header.loss_limit -= 1,
+            "5000 as loss limit, not 4999",
+        ),
+        (
+            |values| values.header.standard_premium -= 1,
+            "10000 as standard premium, not 9999",
+        ),
+        (
+            |values| values.header.expense -= 1,
+            "2000 as expense provision, not 1999",
+        ),
+        (
+            |values| values.header.conversion -= 1,
+            "1100 as loss conversion factor, not 1099",
+        ),
+        (
+            |values| values.header.tax -= 1,
+            "10500 as tax multiplier, not 10499",
+        ),
+        (
+            |values| values.header.mark_kind = 1,
+            "0 as mark kind, not 1",
+        ),
+        (
+            |values| values.header.maximum_mark -= 1,
+            "900 as maximum mark, not 899",
+        ),
+        (
+            |values| values.header.minimum_mark -= 1,
+            "200 as minimum mark, not 199",
+        ),
+        (
+            |values| values.counts.push(0),
+            "3 as number of risks, not 4",
+        ),
+        (
+            |values| values.counts[0] = 1,
+            "2 as number of claims of risk 1, not 1",
+        ),
+        (
+            |values| values.claims[1] = 5,
+            "4000 as claim 2 of risk 1, not 5",
+        ),
+        (
+            |values| values.claims[4] = 5,
+            "3000 as claim 3 of risk 3, not 5",
+        ),
+        (
+            |values| values.joined[3] = 0,
+            "1 as accident bit of claim 2 of risk 3, not 0",
+        ),
+    ];
+    for (change, what) in changes {
+        assert_eq!(of_values(change), format!("retro_read gives {what}"));
+    }
+    let values = scaffold().values();
+    let said = read_back(&scaffold().file()[..31], &values);
+    assert_eq!(said, Err("retro_read refuses it with 8".to_string()));
+}
+
+/// The largest files, and groups at random, are read back as they are.
+#[test]
+fn groups_are_read_back_as_they_are() {
+    for sample in [largest(), largest_of_edition_2(), ten_risks()] {
+        assert_eq!(read_back(&sample.file(), &sample.values()), Ok(()));
+    }
+    let mut random = Random::new(1_932);
+    for _ in 0..2_000 {
+        let sample = random.group();
+        assert_eq!(read_back(&sample.file(), &sample.values()), Ok(()));
+    }
+}
+
+/// The program, where what it writes is not what comes to be in the file: it says so and leaves no
+/// file, and one that was there stays. In the file of three risks, which has a fill bit at its end,
+/// each bit is tried.
+#[test]
+fn a_file_that_reads_otherwise_is_not_left() {
+    let folder = folder("bent");
+    let library = folder.join("bent_write.so");
+    let built = Command::new("gcc")
+        .args(["-shared", "-fPIC", "-Wall", "-Wextra", "-Werror", "-o"])
+        .arg(&library)
+        .arg(repository().join("tests/c/bent_write.c"))
+        .status()
+        .unwrap();
+    assert!(built.success());
+    let (text, file) = (folder.join("my.text"), folder.join("my.group"));
+    fs::write(&text, text::print(&scaffold())).unwrap();
+    let write = |bit: Option<usize>| {
+        let mut grouptext = Command::new(GROUPTEXT);
+        grouptext.arg("write").args([&text, &file]);
+        if let Some(bit) = bit {
+            grouptext
+                .env("LD_PRELOAD", &library)
+                .env("BENT_BIT", bit.to_string());
+        }
+        let output = grouptext.output().unwrap();
+        assert!(output.stdout.is_empty());
+        (
+            output.status.code(),
+            String::from_utf8(output.stderr).unwrap(),
+        )
+    };
+    let made = scaffold().file();
+    for bit in 0..8 * made.len() {
+        let (status, said) = write(Some(bit));
+        assert_eq!(status, Some(3), "{bit}: {said}");
+        let not_written = format!("{} is not written: read back, retro_read ", file.display());
+        assert!(said.starts_with(&not_written), "{bit}: {said}");
+        assert_eq!(names(&folder), ["bent_write.so", "my.text"], "{bit}");
+    }
+    // c has bits 66 to 76, of which bit 72 is worth 16
+    let (_, said) = write(Some(72));
+    assert!(
+        said.ends_with("retro_read gives 1116 as loss conversion factor, not 1100\n"),
+        "{said}"
+    );
+    assert_eq!(
+        write(None),
+        (Some(0), "3 risks and 5 claims written\n".to_string())
+    );
+    assert_eq!(fs::read(&file).unwrap(), made);
+    fs::write(&text, text::print(&ten_risks())).unwrap();
+    assert_eq!(write(Some(0)).0, Some(3));
+    assert_eq!(fs::read(&file).unwrap(), made);
+    fs::remove_dir_all(&folder).unwrap();
 }
