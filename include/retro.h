@@ -22,9 +22,10 @@
  *
  * Answers
  *
- * Each call answers 0 when it has a result, else the number of the first question that is answered
- * No. No refusal has another cause. After a refusal every buffer and every number that was lent
- * holds what it held before the call.
+ * Each call but retro_read answers 0 when it has a result, else the number of the first question that
+ * is answered No. retro_read answers a struct, whose first member, refused, is that 0 or that number.
+ * No refusal has another cause. After a refusal every buffer and every number that was lent holds what
+ * it held before the call.
  *
  *      1  Has the file at least 16 bytes?
  *      2  Is the edition 1 or 2, and the spare bit 0?
@@ -95,7 +96,8 @@
 extern "C" {
 #endif
 
-/* The most risks and the most claims of a group, and the length in bytes of the largest file. */
+/* The most risks and the most claims of a group, and the length in bytes of the largest file, which
+   is of edition 2. */
 #define RETRO_MOST_RISKS 255
 #define RETRO_MOST_CLAIMS 16065
 #define RETRO_LARGEST_FILE 42378

@@ -94,15 +94,27 @@ fn example_of_question_19_fails_no_other() {
 
 #[test]
 fn rated_examples_are_of_their_kind() {
-    let read = |name: &str| {
-        let file = fs::read(examples().join(name).with_extension("group")).unwrap();
-        second_rater::read(&file, 255, 16_065, 16_065).unwrap()
-    };
+    let file = |name: &str| fs::read(examples().join(name).with_extension("group")).unwrap();
+    let read = |name: &str| second_rater::read(&file(name), 255, 16_065, 16_065).unwrap();
     assert_eq!(read("four-risks").counts, [0, 2, 1, 3]);
     assert_eq!(read("ten-risks").counts, [1; 10]);
     assert_eq!(read("entry-ratio").header.mark_kind, 1);
     assert_eq!(read("no-limit").header.loss_limit, 0);
-    assert_eq!(read("largest").counts, [63; 255]);
+    let (largest, of_edition_2) = (read("largest"), read("largest-edition-2"));
+    assert_eq!((largest.edition, of_edition_2.edition), (1, 2));
+    assert_eq!(file("largest").len(), 40_370);
+    assert_eq!(file("largest-edition-2").len(), second_rater::LARGEST_FILE);
+    assert_eq!(largest.counts, [63; 255]);
+    assert_eq!(
+        (
+            of_edition_2.header,
+            of_edition_2.counts,
+            of_edition_2.claims
+        ),
+        (largest.header, largest.counts, largest.claims)
+    );
+    let joined = of_edition_2.joined.iter().filter(|&&bit| bit == 1).count();
+    assert!((3_700..4_300).contains(&joined), "{joined}");
     assert_eq!(read("scaffold").edition, 2);
     assert_eq!(read("scaffold").joined, [0, 1, 0, 1, 0]);
     let four_risks = fs::read_to_string(examples().join("four-risks.expected")).unwrap();

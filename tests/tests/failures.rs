@@ -103,7 +103,7 @@ fn a_full_disk() {
 
 #[test]
 fn a_disk_that_is_full_midway() {
-    // The largest file's lines are more than the 1,024 bytes that a file may get here.
+    // The lines of 255 risks are more than the 1,024 bytes that a file may get here.
     let folder = env::temp_dir().join(format!("retro-short-{}", process::id()));
     fs::create_dir_all(&folder).unwrap();
     let path = folder.join("printed");

@@ -68,7 +68,7 @@ fn each_example() {
             run += 1;
         }
     }
-    assert_eq!(run, 19);
+    assert_eq!(run, 20);
 }
 
 #[test]
@@ -118,6 +118,7 @@ fn input_through_a_pipe_in_small_parts() {
     for (name, part) in [
         ("four-risks", 5),
         ("largest", 4_099),
+        ("largest-edition-2", 4_099),
         ("scaffold", 3),
         ("refused-09", 1),
         ("refused-19", 2),

@@ -41,6 +41,7 @@ fn rated() -> Vec<(&'static str, Vec<u8>)> {
         ("entry-ratio", written(&entry_ratio())),
         ("no-limit", written(&no_limit())),
         ("largest", written(&largest())),
+        ("largest-edition-2", written(&largest_of_edition_2())),
         ("scaffold", written(&scaffold())),
     ]
 }
@@ -164,7 +165,8 @@ fn no_limit() -> Sample {
     }
 }
 
-/// 255 risks of 63 claims, small risks and large ones, with a loss limit and entry ratio marks.
+/// 255 risks of 63 claims, small risks and large ones, with a loss limit and entry ratio marks: the
+/// largest file of edition 1.
 fn largest() -> Sample {
     let mut random = Random::new(255);
     let mut risks = Vec::new();
@@ -185,5 +187,17 @@ fn largest() -> Sample {
         },
         risks,
         joined: None,
+    }
+}
+
+/// The same claims in edition 2, about a quarter of them of the accident of the claim before: the
+/// largest file of all.
+fn largest_of_edition_2() -> Sample {
+    let mut random = Random::new(42_378);
+    let mut bit = |claim| u8::from(claim > 0 && random.one_in(4));
+    let mut of_risk = || (0..63).map(&mut bit).collect();
+    Sample {
+        joined: Some((0..255).map(|_| of_risk()).collect()),
+        ..largest()
     }
 }
