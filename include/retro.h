@@ -335,7 +335,9 @@ uint32_t retro_write(uint32_t edition, retro_header header, const uint8_t *count
  * "%.17g" of printf.
  *
  * A column below 36 or above 52 is refused with 20, whatever the entry ratio; then an entry ratio
- * above 500 with 21. After either, charge and thousandths hold what they held, bit for bit.
+ * above 500 with 21. After either, charge and thousandths hold what they held. Of charge it is proved
+ * that it is the same number, infinity or signed zero, or still a NaN; the proofs know one NaN, so that
+ * its bits stay is tested.
  */
 uint32_t retro_charge(uint32_t column, uint32_t entry_ratio, double *charge, uint32_t *thousandths);
 
