@@ -93,10 +93,11 @@ static uint32_t premium_at(const uint8_t *premiums, uint32_t k)
     return (uint32_t)four[0] << 24 | (uint32_t)four[1] << 16 | (uint32_t)four[2] << 8 | four[3];
 }
 
-/* A line with an amount that is given in thousandths of a dollar. */
+/* A line with an amount of the whole group, which is given in thousandths of a dollar. */
 static void print_thousandths(const char *what, uint64_t amount)
 {
-    printf("%-24s %12" PRIu64 ".%03" PRIu64 "\n", what, amount / 1000, amount % 1000);
+    printf("%-24s %12" PRIu64 ".%03" PRIu64 " dollars for the group\n", what, amount / 1000,
+           amount % 1000);
 }
 
 /* The charge and the savings at an entry ratio in hundredths. Gives 0 or the refusal. */

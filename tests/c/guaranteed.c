@@ -89,6 +89,13 @@ static void print_difference(int64_t difference)
     }
 }
 
+/* A line with an amount of the whole group, which is given in thousandths of a dollar. */
+static void print_thousandths(const char *what, uint64_t amount)
+{
+    printf("%-24s %12" PRIu64 ".%03" PRIu64 " dollars for the group\n", what, amount / 1000,
+           amount % 1000);
+}
+
 /* Prints the lines. Gives 0, or the refusal if the file or the schedule is refused. */
 static uint32_t show(size_t len, retro_schedule schedule)
 {
@@ -112,9 +119,8 @@ static uint32_t show(size_t len, retro_schedule schedule)
     printf("%-24s %12" PRIu32 "\n", "standard premium", discount + guaranteed);
     printf("%-24s %12" PRIu32 "\n", "premium discount", discount);
     printf("%-24s %12" PRIu32 "\n", "guaranteed cost", guaranteed);
-    printf("%-24s %12" PRIu64 ".%03" PRIu64 "\n", "basic premium", basic / 1000, basic % 1000);
-    printf("%-24s %12" PRIu64 ".%03" PRIu64 "\n", "excess loss charge", excess / 1000,
-           excess % 1000);
+    print_thousandths("basic premium", basic);
+    print_thousandths("excess loss charge", excess);
     return 0;
 }
 
