@@ -51,7 +51,7 @@
  *     20  Is the column from 36 to 52 hundredths?
  *     21  Is the entry ratio at most 500 hundredths?
  *     22  Is the minimum premium at most the maximum premium?
- *     23  Does a basic premium from 0 to 1,048,575 dollars reach the taxed expenses and losses?
+ *     23  Does a basic premium from 0 to 1,048,575 dollars a risk reach the taxed expenses and losses?
  *
  *     retro_rate        asks 1 to 6, 18, 7 to 9, 19, 10, 12, 13
  *     retro_guaranteed  asks 1 to 6, 18, 7 to 9, 19, 10, 12, 13, then 16, then 17
@@ -213,7 +213,8 @@ uint32_t retro_guaranteed(const uint8_t *file, size_t file_len, retro_schedule s
  *     made      gets the number of trials made: trials, or 20 if that is less.
  *     best      gets the best basic premium yet that reaches the total, in whole dollars a risk, 0 to
  *               1,048,575.
- *     short_of  gets the largest basic premium known to fall short of it, or -1 if none is.
+ *     short_of  gets the largest basic premium known to fall short of it, in whole dollars a risk, or -1
+ *               if none is.
  *
  * For a basic premium of B whole dollars the premium of a risk is, in dollars and not rounded,
  *
@@ -237,12 +238,18 @@ uint32_t retro_guaranteed(const uint8_t *file, size_t file_len, retro_schedule s
  * over the total by at most n * T / 10,000 dollars. Unlike those of retro_rate before they are
  * rounded, the premiums of a plan need not come to the total exactly.
  *
+ * Where best is 0 nothing bounds what the sum is over the total: premiums that are held at a minimum
+ * above what is owed may collect far more than is owed, and the answer, 0 and -1, is the same as where
+ * 0 reaches the total exactly. Whoever must know adds the premiums up, as tests/c/plan.c does: the
+ * library gives their sum nowhere.
+ *
  * The marks of the file are asked by 6 and 18, and its standard premium by 3; they are not used
  * further, so that a change of them that passes these changes no plan.
  *
  * Two risks without limit, with losses of 0 and 20, have e 5, c 1,000 and T 10,000: their premiums
  * are B and B + 20, and the total is 30. With G 4,294,967,295 and H 0, twenty trials give best 5 and
- * short_of 4; with G 18 and H 0, 12 and 11; with G 18 and H 12, 0 and -1. G 14 is refused with 23.
+ * short_of 4; with G 18 and H 0, 12 and 11; with G 18 and H 12, 0 and -1, of which the premiums come
+ * to 30; with G 60 and H 50, 0 and -1 too, of which they come to 100. G 14 is refused with 23.
  *
  * The refusals of the file come first, 1 to 10 with 18 after 6 and 19 after 9; then 22 where H is
  * above G; then 23 where no basic premium from 0 to 1,048,575 reaches the total, whatever the trials.

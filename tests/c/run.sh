@@ -2,8 +2,8 @@
 # Builds the programs in C against crates/retro_c/out/libretro_c.a and runs them: layout, what retro.h
 # promises; round_trip, Write and Read of the four-risk group in either edition; billing, guaranteed,
 # charges and plan, which are held to tests/c/*.expected, whose figures are the second rater's, for
-# charges those of tests/src/charges_1965.rs, and for plan those of tests/src/plans.rs. Any failure
-# exits non-zero.
+# charges those of tests/src/charges_1965.rs, and for plan those of tests/src/plans.rs, as
+# tests/tests/stored.rs has them again. Any failure exits non-zero.
 set -euo pipefail
 export LC_ALL=C
 cd "$(dirname "$0")/../.."
@@ -152,16 +152,18 @@ unprinted charges 44 150
 echo "charges: 9 shown, 6 refused, 9 wrong usages, 1 unprinted: as expected"
 
 # Plans of the four-risk group, of others, and of a file that Rate refuses with 12: bounds in effect,
-# without effect and equal, numbers of trials, and either edition.
+# without effect and equal, a minimum above what is owed, numbers of trials, and either edition.
 for terms in 'four-risks 13020 4935' 'four-risks 13020 4935 20' 'four-risks 12000 5000' \
-    'four-risks 4294967295 0' 'four-risks 8400 8400' 'four-risks 8400 0' 'four-risks 13020 4935 0' \
-    'four-risks 13020 4935 1' 'four-risks 13020 4935 10' 'four-risks 13020 4935 19' \
-    'four-risks 13020 4935 21' 'four-risks 13020 4935 4294967295' 'ten-risks 13740 4640' \
-    'scaffold 4294967295 3885' 'entry-ratio 65116 32190' 'largest 29114763 5143172' \
+    'four-risks 4294967295 0' 'four-risks 8400 8400' 'four-risks 8400 0' 'four-risks 60000 50000' \
+    'four-risks 13020 4935 0' 'four-risks 13020 4935 1' 'four-risks 13020 4935 10' \
+    'four-risks 13020 4935 19' 'four-risks 13020 4935 21' 'four-risks 13020 4935 4294967295' \
+    'ten-risks 13740 4640' 'scaffold 4294967295 3885' 'entry-ratio 65116 32190' \
+    'largest 29114763 5143172' 'largest 4294967295 4294967295' 'largest-edition-2 27843387 6114965' \
     'refused-12 4294967295 0'; do
     read -r -a words <<<"$terms"
     ran 0 plan "examples/${words[0]}.group" "${words[@]:1}"
     diff /dev/null "$built/said"
+    echo "== $terms"
     cat "$built/printed"
 done >"$built/planned"
 diff tests/c/plan.expected "$built/planned"
@@ -190,4 +192,4 @@ failure plan-usage 3 plan "$file" 13020 4935 99999999999999999999
 failure plan-missing 2 plan examples/no-such-file.group 13020 4935
 unprinted plan "$file" 13020 4935
 
-echo "plan: 17 shown, 17 refused, 1 unreadable, 9 wrong usages, 1 unprinted: as expected"
+echo "plan: 20 shown, 17 refused, 1 unreadable, 9 wrong usages, 1 unprinted: as expected"

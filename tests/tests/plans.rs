@@ -208,6 +208,12 @@ fn a_total_that_is_hit_exactly_reaches() {
     assert_eq!(plan(&file, u32::MAX, 0, 20), finished(5));
     assert_eq!(plan(&file, 18, 0, 20), finished(12));
     assert_eq!(plan(&file, 18, 12, 20), finished(0));
+    // the same answer, and 70 more than is sought
+    assert_eq!(plan(&file, 60, 50, 20), finished(0));
+    let books = Books::of(&file).unwrap();
+    assert_eq!(books.target(), 30 * books.dollar());
+    assert_eq!(books.total(0, 18, 12), 30 * books.dollar());
+    assert_eq!(books.total(0, 60, 50), 100 * books.dollar());
     assert_eq!(plan(&file, 15, 0, 20), finished(15));
     assert_eq!(plan(&file, 15, 15, 20), finished(0));
     assert_eq!(plan(&file, 14, 0, 20), Err(23));
