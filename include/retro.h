@@ -238,10 +238,10 @@ uint32_t retro_guaranteed(const uint8_t *file, size_t file_len, retro_schedule s
  * over the total by at most n * T / 10,000 dollars. Unlike those of retro_rate before they are
  * rounded, the premiums of a plan need not come to the total exactly.
  *
- * Where best is 0 nothing bounds what the sum is over the total: premiums that are held at a minimum
- * above what is owed may collect far more than is owed, and the answer, 0 and -1, is the same as where
- * 0 reaches the total exactly. Whoever must know adds the premiums up, as tests/c/plan.c does: the
- * library gives their sum nowhere.
+ * Where best is 0 the sum may be over the total by far more, as where premiums are held at a minimum
+ * above what is owed, and the answer, 0 and -1, is the same as where 0 reaches the total exactly; and
+ * so it may be in a plan that is not finished. Whoever must know adds the premiums up, as
+ * tests/c/plan.c does: no call gives their sum.
  *
  * The marks of the file are asked by 6 and 18, and its standard premium by 3; they are not used
  * further, so that a change of them that passes these changes no plan.
