@@ -7,7 +7,7 @@ use native.Mathlib.Decide.{dec_lt}
 use native.Mathlib.Omega.{arith}
 use lib.ListN.{length, get_or, take, drop, length-drop, take-append-drop, get_or-eq_default}
 use lib.Seq.{length-take-le, get_or-take, get_or-drop, ext_get_or}
-use Rattle.plan.specs.Calls.{filled}
+use Rattle.plan.specs.Call.{filled}
 use Rattle.plan.specs.Field.{bit, field, Slot, total_width, bytes_for, bytes_of, Fitting}
 use Rattle.laws.proofs.Fields.{by_cases, Bytes, field-same, field-byte, zero_bits, bit-append}
 use Rattle.laws.proofs.Written.{laid_same, length-bytes_of, bytes_of-unique}

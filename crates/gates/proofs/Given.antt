@@ -3,15 +3,15 @@
 use Rattle.std.proofs.Common.{◌≡◌, sym, ap, ap₂, ◌∙◌, List, map, ℕ, length, get_or, Ok, Err}
 use Rattle.plan.specs.Header.{header_of, risk_count}
 use Rattle.plan.specs.Losses.{Losses, losses_in}
-use Rattle.plan.specs.Premium as plan
+use Rattle.plan.specs.Premium as premium
 use Rattle.plan.specs.Premium.{terms_of, bill_with, billed_premium, billed_premiums}
 use Rattle.plan.specs.Questions.{passed, failed, first_no, rating_questions}
-use Rattle.plan.specs.Calls.{answer}
-use Rattle.laws.proofs.Questions.{given-passed, refused-failed}
+use Rattle.plan.specs.Call.{answer}
+use Rattle.laws.proofs.Calls.{given-passed, refused-failed}
 use Rattle.laws.proofs.Losses.{length-losses}
 use Rattle.group.specs.Refusals.{number_of, answer_is}
 use Rattle.group.specs.Values.{losses_of, losses_is, LossesAre}
-use Rattle.group.specs.declared.Losses as group
+use Rattle.group.specs.declared.Losses as declared_losses
 use Rattle.group.specs.declared.Refusal.{Refusal}
 use Rattle.group.specs.declared.GroupLosses.{GroupLosses}
 use Rattle.group.proofs.Laws.{risks}
@@ -45,28 +45,28 @@ module _ (s : List ℕ) (t : Terms)
   terms-are = sym (given-passed (first_no (rating_questions s)) (terms_of (header_of s) (losses_in s)) (terms_is t) (sym gave)).1
 
   pub risks_are : t.risks ≡ length (losses_in s)
-  risks_are = ap (λ (x : plan.Terms). x.risks) terms-are
+  risks_are = ap (λ (x : premium.Terms). x.risks) terms-are
 
   pub risk-count : t.risks ≡ risk_count s
   risk-count = risks_are ∙ length-losses s
 
   -- as many as the losses that the gate gives
-  pub as-many : {g : GroupLosses} {xs : List group.Losses} → LossesAre (losses_in s) g → xs ≡ g.of_risks.items → length xs ≡ t.risks
+  pub as-many : {g : GroupLosses} {xs : List declared_losses.Losses} → LossesAre (losses_in s) g → xs ≡ g.of_risks.items → length xs ≡ t.risks
   as-many x lent = ap length lent ∙ risks x ∙ sym risks_are
 
   -- the bills by the losses that the gate gives are step 6's premiums of the risks
   pub bills-are : {g : GroupLosses} → LossesAre (losses_in s) g
       → map (λ (r : Losses). bill_with (terms_is t) r.limited) (losses_is g) ≡ billed_premiums (header_of s) (losses_in s)
-  bills-are x = ap₂ (λ (y : plan.Terms) (l : List Losses). map (λ (r : Losses). bill_with y r.limited) l) terms-are x.each
+  bills-are x = ap₂ (λ (y : premium.Terms) (l : List Losses). map (λ (r : Losses). bill_with y r.limited) l) terms-are x.each
 
   -- and where those losses are lent
-  pub lent-bills : {g : GroupLosses} {xs : List group.Losses} → LossesAre (losses_in s) g → xs ≡ g.of_risks.items
+  pub lent-bills : {g : GroupLosses} {xs : List declared_losses.Losses} → LossesAre (losses_in s) g → xs ≡ g.of_risks.items
       → map (λ (r : Losses). bill_with (terms_is t) r.limited) (losses_of xs) ≡ billed_premiums (header_of s) (losses_in s)
   lent-bills x lent =
-      ap (λ (l : List group.Losses). map (λ (r : Losses). bill_with (terms_is t) r.limited) (losses_of l)) lent ∙ bills-are x
+      ap (λ (l : List declared_losses.Losses). map (λ (r : Losses). bill_with (terms_is t) r.limited) (losses_of l)) lent ∙ bills-are x
 
   -- and one by one: the bill by the A of risk i is its premium
   pub bill_is : {g : GroupLosses} → LossesAre (losses_in s) g → (i : ℕ)
       → bill_with (terms_is t) (get_or (losses_is g) i no_losses).limited
       ≡ billed_premium (header_of s) (losses_in s) (get_or (losses_in s) i no_losses)
-  bill_is x i = ap₂ (λ (y : plan.Terms) (l : List Losses). bill_with y (get_or l i no_losses).limited) terms-are x.each
+  bill_is x i = ap₂ (λ (y : premium.Terms) (l : List Losses). bill_with y (get_or l i no_losses).limited) terms-are x.each

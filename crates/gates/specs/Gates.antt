@@ -4,7 +4,7 @@ use Rattle.plan.specs.Header.{header_of}
 use Rattle.plan.specs.Losses.{losses_in}
 use Rattle.plan.specs.Premium.{terms_of}
 use Rattle.plan.specs.Questions.{first_no, rating_questions}
-use Rattle.plan.specs.Calls.{answer}
+use Rattle.plan.specs.Call.{answer}
 use Rattle.group.specs.Refusals.{answer_is}
 use Rattle.group.specs.Values.{header_is, LossesAre}
 use Rattle.groupfile.specs.Opening.{RiskRunIs}

@@ -4,7 +4,7 @@ use Rattle.plan.specs.Header.{edition_of}
 use Rattle.plan.specs.Claim.{joined_width}
 use Rattle.plan.specs.Questions.{known_edition}
 use Rattle.group.specs.declared.Refusal.{Refusal}
-use Rattle.group.specs.declared.Refusal.TheVariants as no
+use Rattle.group.specs.declared.Refusal.TheVariants as variants
 use Rattle.group.specs.declared.edition.Edition.{Edition}
 use Rattle.group.specs.declared.edition.Edition.TheVariants.{First, Second}
 
@@ -16,7 +16,7 @@ edition_number Second = 2
 -- the edition with a number where that is a known one, and else question 2's No
 abbrev pub EditionIs : ℕ → Result Edition Refusal → Type 0
 EditionIs n (Ok e) = (known_edition n ≡ true) × (edition_number e ≡ n)
-EditionIs n (Err r) = (known_edition n ≡ false) × (r ≡ no.Edition)
+EditionIs n (Err r) = (known_edition n ≡ false) × (r ≡ variants.Edition)
 
 -- the claims of a file lie as those of an edition; a file with a number that is not known as those of the first
 abbrev pub LieAs : List ℕ → Edition → Type 0

@@ -3,11 +3,11 @@ use Rattle.std.specs.Prelude.{List, ℕ}
 use Rattle.plan.specs.File.{Group}
 use Rattle.group.specs.Values.{header_is}
 use Rattle.group.specs.Edition.{edition_number}
-use Rattle.group.specs.declared.Header as group
+use Rattle.group.specs.declared.Header as declared_header
 use Rattle.group.specs.declared.given.GroupValues.{GroupValues}
 
 -- the values that a caller hands to Write
-abbrev pub given_group : ℕ → group.Header → List ℕ → List ℕ → List ℕ → Group
+abbrev pub given_group : ℕ → declared_header.Header → List ℕ → List ℕ → List ℕ → Group
 given_group edition h counts claims joined = record {
   edition = edition;
   header = header_is h;

@@ -2,34 +2,34 @@
 -- documents 01 and 02 have them.
 use Rattle.std.specs.Prelude.{ℕ, Result, Ok, Err}
 use Rattle.plan.specs.Questions as questions
-use Rattle.plan.specs.Calls.{Answer, refused, given}
+use Rattle.plan.specs.Call.{Answer, refused, given}
 use Rattle.group.specs.declared.Refusal.{Refusal}
-use Rattle.group.specs.declared.Refusal.TheVariants as no
+use Rattle.group.specs.declared.Refusal.TheVariants as variants
 
 -- the question's number
 abbrev pub number_of : Refusal → ℕ
-number_of no.NoHeader = 1
-number_of no.Edition = 2
-number_of no.StandardPremium = 3
-number_of no.Conversion = 4
-number_of no.Tax = 5
-number_of no.Mark = 6
-number_of no.NoRisks = 7
-number_of no.Length = 8
-number_of no.Fill = 9
-number_of no.NoLosses = 10
-number_of no.NegativeBasic = 12
-number_of no.Room = 13
-number_of no.EntryRatio = 14
-number_of no.Misfit = 15
-number_of no.DiscountRate = 16
-number_of no.LayerWidth = 17
-number_of no.MarkOrder = 18
-number_of no.FirstJoined = 19
-number_of no.Column = 20
-number_of no.TableRatio = 21
-number_of no.PremiumOrder = 22
-number_of no.OutOfReach = 23
+number_of variants.NoHeader = 1
+number_of variants.Edition = 2
+number_of variants.StandardPremium = 3
+number_of variants.Conversion = 4
+number_of variants.Tax = 5
+number_of variants.Mark = 6
+number_of variants.NoRisks = 7
+number_of variants.Length = 8
+number_of variants.Fill = 9
+number_of variants.NoLosses = 10
+number_of variants.NegativeBasic = 12
+number_of variants.Room = 13
+number_of variants.EntryRatio = 14
+number_of variants.Misfit = 15
+number_of variants.DiscountRate = 16
+number_of variants.LayerWidth = 17
+number_of variants.MarkOrder = 18
+number_of variants.FirstJoined = 19
+number_of variants.Column = 20
+number_of variants.TableRatio = 21
+number_of variants.PremiumOrder = 22
+number_of variants.OutOfReach = 23
 
 -- what questions come to
 abbrev pub verdict_is : Result Unit Refusal → questions.Verdict

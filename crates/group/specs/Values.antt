@@ -1,6 +1,6 @@
 -- The code's values as those of document 01: the header values and the losses.
 use Rattle.std.specs.Prelude.{◌≡◌, List, map}
-use Rattle.plan.specs.Header as plan
+use Rattle.plan.specs.Header as header
 use Rattle.plan.specs.Losses as losses
 use Rattle.plan.specs.Losses.{SL, SA}
 use Rattle.plan.specs.Bounds.{GroupBounds}
@@ -8,7 +8,7 @@ use Rattle.group.specs.declared.Header.{Header}
 use Rattle.group.specs.declared.Losses.{Losses}
 use Rattle.group.specs.declared.GroupLosses.{GroupLosses}
 
-abbrev pub header_is : Header → plan.Header
+abbrev pub header_is : Header → header.Header
 header_is h = record {
   loss_limit = h.loss_limit;
   standard_premium = h.standard_premium;

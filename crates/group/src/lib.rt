@@ -15,12 +15,21 @@ use arrayvec::ArrayVec;
 use std::error::Error;
 use std::fmt;
 
-// Sizes by name, as plan's Sizes has them: the most risks of a group, the most claims of a risk, the largest mark in
-// thousandths, and the bytes of the largest file. What takes a number of risks by itself asks that it be at most the first: as a type it
-// would be made for one call and opened at once.
+// Sizes by name, as plan's Sizes has them: the most risks of a group, the most claims of a risk, the least and the most of the loss
+// conversion factor in thousandths and of the tax multiplier in ten-thousandths, the largest mark in thousandths, and the bytes of the
+// largest file. What takes a number of risks by itself asks that it be at most the first: as a type it would be made for one call and
+// opened at once.
 pub const MOST_RISKS: usize = 255;
 
 pub const MOST_CLAIMS: u32 = 63;
+
+pub const LEAST_CONVERSION: u32 = 1000;
+
+pub const MOST_CONVERSION: u32 = 2000;
+
+pub const LEAST_TAX: u32 = 10000;
+
+pub const MOST_TAX: u32 = 20000;
 
 pub const MOST_MARK: u32 = 6000;
 

@@ -4,7 +4,7 @@ ghost use Rattle.plan.specs.Questions.{first_no, header_questions};
 ghost use Rattle.group.specs.Refusals.{verdict_is};
 ghost use Rattle.group.specs.Values.{header_is};
 
-use crate::{Header, MOST_MARK, Refusal};
+use crate::{Header, LEAST_CONVERSION, LEAST_TAX, MOST_CONVERSION, MOST_MARK, MOST_TAX, Refusal};
 
 // Questions 3 to 6, 18 and 7 of header values and the number of risks.
 pub fn header_verdict(h: Header, risks: usize) -> Result<(), Refusal>
@@ -13,10 +13,10 @@ pub fn header_verdict(h: Header, risks: usize) -> Result<(), Refusal>
     if h.standard_premium < 1 {
         return Err(Refusal::StandardPremium);
     }
-    if !(1000..=2000).contains(&h.conversion) {
+    if !(LEAST_CONVERSION..=MOST_CONVERSION).contains(&h.conversion) {
         return Err(Refusal::Conversion);
     }
-    if !(10000..=20000).contains(&h.tax) {
+    if !(LEAST_TAX..=MOST_TAX).contains(&h.tax) {
         return Err(Refusal::Tax);
     }
     let maximum = h.maximum_mark;

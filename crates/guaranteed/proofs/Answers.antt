@@ -8,28 +8,31 @@ use Rattle.plan.specs.Arithmetic.{sum, sum_z}
 use Rattle.plan.specs.Field.{slots, bytes_of}
 use Rattle.plan.specs.Header.{header_of, risk_count}
 use Rattle.plan.specs.Losses.{losses_in}
-use Rattle.plan.specs.Premium as plan
+use Rattle.plan.specs.Premium as premium
 use Rattle.plan.specs.Premium.{terms_of}
 use Rattle.plan.specs.Questions.{Verdict, passed, failed, first_no, or_else, rating_questions, rate_enough, question13}
-use Rattle.plan.specs.Calls.{Answer, given, answer, giving, filled, buffer_after, rated_of, premium_bytes}
+use Rattle.plan.specs.Call.{Call, answer, filled}
+use Rattle.plan.specs.Calls.{rated_of, premium_bytes}
 use Rattle.plan.specs.Discount.{Layer, discount, guaranteed_cost, rates_pass}
-use Rattle.plan.specs.Comparison.{differences_of, schedule_questions, compare_enough, compare_questions, comparison_of, compare, Beside}
-use Rattle.plan.specs.Comparison as call
+use Rattle.plan.specs.Comparison.{differences_of, schedule_questions, compare_enough, compare_questions, comparison_of, compare, Beside, compare_call, numbers_of}
+use Rattle.plan.specs.Comparison as comparison
 use Rattle.laws.proofs.Tests.{both}
-use Rattle.laws.proofs.Questions.{after-gate, answered, or-passed, yes-to}
-use Rattle.laws.proofs.Comparisons.{numbers_with, beside}
+use Rattle.laws.proofs.Calls.{gives}
+use Rattle.laws.proofs.Questions.{after-gate, or-passed, yes-to}
+use Rattle.laws.proofs.Comparisons.{beside}
 use Rattle.group.specs.Refusals.{number_of, answer_is}
 use Rattle.group.specs.Values.{losses_of, LossesAre}
 use Rattle.group.specs.declared.Refusal.{Refusal}
-use Rattle.group.specs.declared.Losses as group
+use Rattle.group.specs.declared.Losses as declared_losses
 use Rattle.group.specs.declared.GroupLosses.{GroupLosses}
 use Rattle.steps.specs.Terms.{terms_is}
 use Rattle.steps.specs.declared.bill.Terms.{Terms}
+use Rattle.group.proofs.Laws.{keeps, sets}
 use Rattle.gates.proofs.Given.{passes, terms-are, risk-count, lent-bills}
 use Rattle.rating.specs.Bills.{bills_of}
 use Rattle.rating.specs.Rates.{figures_by}
 use Rattle.rating.specs.declared.rates.GroupFigures.{GroupFigures}
-use Rattle.guaranteed.specs.Comparisons.{parts_of, numbers_given, CompareSays}
+use Rattle.guaranteed.specs.Comparisons.{numbers_given, CompareSays}
 use Rattle.guaranteed.specs.declared.Comparison.{Comparison}
 
 -- ---- the verdict, and a refusal
@@ -50,14 +53,8 @@ module _ (s : List ℕ) (ls : List Layer) (old_premiums : List ℕ) (old_differe
   -- a refusal leaves all as it was
   pub refused_says : (r : Refusal) → first_no (compare_questions s ls (length old_premiums) (length old_differences)) ≡ failed (number_of r)
       → CompareSays s ls old_premiums old_differences (Err r) old_premiums old_differences
-  unfolding compare
-  refused_says r e =
-      let a = answered (comparison_of ls (header_of s) (losses_in s)) e in
-      record {
-        answer = sym (ap (giving parts_of) a);
-        premiums_after = sym (ap (λ (x : Answer call.Comparison). buffer_after (λ c. premium_bytes c.rated) x old_premiums) a);
-        differences_after = sym (ap (λ (x : Answer call.Comparison). buffer_after (λ c. c.differences) x old_differences) a);
-      }
+  unfolding compare_call
+  refused_says r e = keeps (compare_call s ls (length old_premiums) (length old_differences)) numbers_of numbers_given r e (refl, (refl, tt))
 
 -- ---- what a call says that is not refused
 
@@ -67,12 +64,14 @@ module _ (s : List ℕ) (ls : List Layer) (t : Terms)
     {g : GroupLosses} (losses : LossesAre (losses_in s) g) (old_premiums : List ℕ) (old_differences : List ℤ)
     (asked : last_verdict s ls old_premiums old_differences ≡ passed) where
   -- all that is given
-  abbrev all : call.Comparison
+  abbrev all : comparison.Comparison
   all = comparison_of ls (header_of s) (losses_in s)
 
-  is-given : compare s ls (length old_premiums) (length old_differences) ≡ given all
-  unfolding compare
-  is-given = answered all (verdict s ls old_premiums old_differences (passes s t gave) asked)
+  abbrev called : Call comparison.Comparison
+  called = compare_call s ls (length old_premiums) (length old_differences)
+
+  passed-all : first_no (compare_questions s ls (length old_premiums) (length old_differences)) ≡ passed
+  passed-all = verdict s ls old_premiums old_differences (passes s t gave) asked
 
   -- 13 and 16, as what the code needs them for
   thirteen : compare_enough s (length old_premiums) (length old_differences) ≡ true
@@ -95,7 +94,7 @@ module _ (s : List ℕ) (ls : List Layer) (t : Terms)
       (or-passed (first_no (question13 (compare_enough s (length old_premiums) (length old_differences)) ∷ [])) _ asked).1
 
   -- what the code gives and leaves, by the losses that it is lent
-  module _ {xs : List group.Losses} (lent : xs ≡ g.of_risks.items) (c : Comparison) (premiums : List ℕ) (differences : List ℤ)
+  module _ {xs : List declared_losses.Losses} (lent : xs ≡ g.of_risks.items) (c : Comparison) (premiums : List ℕ) (differences : List ℤ)
       (rated : c.rated ≡ figures_by t (losses_of xs))
       (discounted : c.discount ≡ discount ls (header_of s).standard_premium)
       (less : c.guaranteed ≡ (header_of s).standard_premium - c.discount)
@@ -111,21 +110,17 @@ module _ (s : List ℕ) (ls : List Layer) (t : Terms)
     unfolding comparison_of
     differences_are = λ i. differences_of (cost-is i) (lent-bills s t gave losses lent i)
 
-    numbers_are : numbers_given c ≡ numbers_with all t.basic
+    numbers-are : numbers_given c ≡ numbers_of all
     unfolding comparison_of rated_of
-    numbers_are = λ i. record {
-      risks = (ap (λ (f : GroupFigures). f.risks) rated ∙ ap (λ (x : plan.Terms). x.risks) (terms-are s t gave)) i;
-      basic = (rated i).basic;
-      excess = (ap (λ (f : GroupFigures). f.excess) rated ∙ ap (λ (x : plan.Terms). x.excess) (terms-are s t gave)) i;
+    numbers-are = λ i. record {
+      risks = (ap (λ (f : GroupFigures). f.risks) rated ∙ ap (λ (x : premium.Terms). x.risks) (terms-are s t gave)) i;
+      basic = (ap (λ (f : GroupFigures). pos f.basic) rated ∙ ap (λ (x : premium.Terms). x.basic) (terms-are s t gave)) i;
+      excess = (ap (λ (f : GroupFigures). f.excess) rated ∙ ap (λ (x : premium.Terms). x.excess) (terms-are s t gave)) i;
       billed = (ap (λ (f : GroupFigures). f.billed) rated ∙ ap sum (lent-bills s t gave losses lent)) i;
       discount = discounted i;
       guaranteed = cost-is i;
       difference = (summed ∙ ap (sum_z (λ z. z)) differences_are) i;
     }
-
-    basic_after : pos t.basic ≡ all.rated.basic
-    unfolding comparison_of rated_of
-    basic_after = ap (λ (x : plan.Terms). x.basic) (terms-are s t gave)
 
     left : premiums ≡ filled (premium_bytes all.rated) old_premiums
     unfolding comparison_of rated_of
@@ -135,29 +130,13 @@ module _ (s : List ℕ) (ls : List Layer) (t : Terms)
     left-too = put-too ∙ ap (λ (zs : List ℤ). filled zs old_differences) differences_are
 
     pub given-says : CompareSays s ls old_premiums old_differences (Ok c) premiums differences
-    given-says = record {
-      answer =
-          (λ i. given (record {
-            rated = record {
-              risks = (numbers_are i).risks;
-              basic = (ap (λ (f : GroupFigures). pos f.basic) rated ∙ basic_after) i;
-              excess = (numbers_are i).excess;
-              billed = (numbers_are i).billed;
-            };
-            discount = (numbers_are i).discount;
-            guaranteed = (numbers_are i).guaranteed;
-            difference = (numbers_are i).difference;
-          }))
-          ∙ sym (ap (giving parts_of) is-given);
-      premiums_after =
-          left ∙ sym (ap (λ (x : Answer call.Comparison). buffer_after (λ c. premium_bytes c.rated) x old_premiums) is-given);
-      differences_after =
-          left-too ∙ sym (ap (λ (x : Answer call.Comparison). buffer_after (λ c. c.differences) x old_differences) is-given);
-    }
+    unfolding compare_call
+    given-says = sets called numbers_of numbers_given c passed-all numbers-are (left, (left-too, tt))
 
     pub beside-given : Beside s (numbers_given c) premiums differences
+    unfolding compare_call
     beside-given =
         subst (λ (u : List ℤ). Beside s (numbers_given c) premiums u) (sym left-too)
         (subst (λ (p : List ℕ). Beside s (numbers_given c) p (filled all.differences old_differences)) (sym left)
-        (subst (λ (f : call.NumbersGiven). Beside s f (filled (premium_bytes all.rated) old_premiums) (filled all.differences old_differences))
-        (sym numbers_are) (beside s ls old_premiums old_differences all is-given t.basic basic_after)))
+        (subst (λ (f : comparison.NumbersGiven). Beside s f (filled (premium_bytes all.rated) old_premiums) (filled all.differences old_differences))
+        (sym numbers-are) (beside s ls old_premiums old_differences all (gives called passed-all))))

@@ -10,13 +10,13 @@ use Rattle.std.proofs.Math.Nat.{mul-le-mul, le_of_lt}
 use Rattle.std.proofs.Math.Seq.{take-suc, take-length, length-take-le}
 use Rattle.plan.specs.Arithmetic.{sum, sum_z}
 use Rattle.plan.specs.Sizes.{most_risks}
-use Rattle.plan.specs.Calls.{filled}
+use Rattle.plan.specs.Call.{filled}
 use Rattle.plan.specs.Comparison.{differences_of}
 use Rattle.laws.proofs.Differences.{Differs, of-pos, of-add, of-minus, same, mag-lt}
 use Rattle.laws.proofs.Filled.{filled_none, length-filled, filled_more}
 use Rattle.laws.proofs.Comparisons.{added}
 use Rattle.group.specs.Values.{losses_of}
-use Rattle.group.specs.declared.Losses as group
+use Rattle.group.specs.declared.Losses as declared_losses
 use Rattle.steps.specs.declared.bill.Terms.{Terms}
 use Rattle.rating.specs.Bills.{bills_of}
 
@@ -33,7 +33,7 @@ pub record Differencing (bills : List ℕ) (cost : ℕ) (old : List ℤ) (i : �
 pub difference-fits : {a b : ℕ} → a < 2 ^ 32 → b < 2 ^ 32 → mag (pos a -ℤ pos b) < 2 ^ 63
 difference-fits {a} {b} h k = mag-lt (pos a -ℤ pos b) (of-minus (pos a) (pos b) (of-pos a) (of-pos b)) (omega (arith, h)) (omega (arith, k))
 
-module _ (t : Terms) (xs : List group.Losses) (cost : ℕ) (old : List ℤ) (few : length xs ≤ most_risks) (enough : length xs ≤ length old) where
+module _ (t : Terms) (xs : List declared_losses.Losses) (cost : ℕ) (old : List ℤ) (few : length xs ≤ most_risks) (enough : length xs ≤ length old) where
   abbrev bills : List ℕ
   bills = bills_of t (losses_of xs)
 

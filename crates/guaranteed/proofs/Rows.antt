@@ -5,7 +5,7 @@ use Rattle.std.specs.List.{list_all}
 use Rattle.std.proofs.Math.ListN.{get_or-map}
 use Rattle.std.proofs.Math.Seq.{get_or-take, drop-cons}
 use Rattle.std.proofs.lemmas.List.{length-map, drop_all}
-use Rattle.plan.specs.Discount as plan
+use Rattle.plan.specs.Discount as discount
 use Rattle.plan.specs.Discount.{discount_sum, discount, most_rate, rates_pass, widths_pass}
 use Rattle.laws.proofs.Discounts.{sum_most, discount-quotient, layer-taken}
 use Rattle.guaranteed.specs.Schedules.{layer_is, layers_of, Discountable}
@@ -70,7 +70,7 @@ module _ {rows : List Layer} {premium i remains sum : ℕ} (four : length rows �
         ∙ (λ j. get_or-map layer_is rows 3 none j ∷ drop_all 4 (layers_of rows) (omega (arith, length-map rows layer_is, four)) j)
 
     last_taken : sum + remains * (get_or rows 3 none).rate ≡ discount_sum (layers_of rows) premium
-    last_taken = ap (λ (x : List plan.Layer). sum + discount_sum x remains) (sym rest-is) ∙ w.whole
+    last_taken = ap (λ (x : List discount.Layer). sum + discount_sum x remains) (sym rest-is) ∙ w.whole
 
     pub all-most : Discountable (layers_of rows) premium → sum + remains * (get_or rows 3 none).rate ≤ 4194303000
     all-most d = omega (arith, last_taken, sum-fits d)

@@ -2,18 +2,18 @@
 // guaranteed cost, and what each risk is billed above or below it.
 #![tactic(auto)]
 
-ghost use Rattle.std.specs.Prelude.{◌≡◌, ◌&&◌, [], ◌∷◌, ◌*◌, leb, pos, ◌+ℤ◌, ◌-ℤ◌, ◌≤◌, length};
+ghost use Rattle.std.specs.Prelude.{◌≡◌, ◌&&◌, [], ◌∷◌, ◌*◌, leb, pos, ◌+ℤ◌, ◌-ℤ◌, ◌≤◌, length, IfOk};
 ghost use Rattle.std.specs.Int.{w64};
 ghost use Rattle.std.proofs.Common.{SFits};
 ghost use Rattle.plan.specs.Arithmetic.{sum_z};
-ghost use Rattle.plan.specs.Calls.{filled};
+ghost use Rattle.plan.specs.Call.{filled};
 ghost use Rattle.plan.specs.Questions.{first_no, question13};
-ghost use Rattle.plan.specs.Comparison.{differences_of};
+ghost use Rattle.plan.specs.Comparison.{differences_of, Beside};
 ghost use Rattle.group.specs.Refusals.{verdict_is};
 ghost use Rattle.group.specs.Values.{losses_of};
 ghost use Rattle.rating.specs.Bills.{bills_of};
 ghost use Rattle.guaranteed.specs.Schedules.{layers_of};
-ghost use Rattle.guaranteed.specs.Comparisons.{CompareSays, BesideGiven};
+ghost use Rattle.guaranteed.specs.Comparisons.{CompareSays, numbers_given};
 
 pub mod discounts;
 pub mod schedule;
@@ -93,7 +93,7 @@ pub fn compare(
 ) -> Result<Comparison, Refusal>
     ensures says { CompareSays file.now (layers_of schedule.layers) premiums.old differences.old result
         premiums.new differences.new }
-    ensures beside { BesideGiven result file.now premiums.new differences.new }
+    ensures beside { IfOk result (λ g. Beside file.now (numbers_given g) premiums.new differences.new) }
 {
     let Opened {
         verdict: terms,

@@ -3,7 +3,7 @@
 -- each takes guaranteed cost once. Assumes nothing.
 use mathlib.Core.Path.{◌≡◌, refl, sym, ap, ◌∙◌, subst}
 use mathlib.Core.Bool.{true}
-use mathlib.Core.List.{List, [], ◌∷◌, ◌++◌, map}
+use mathlib.Core.List.{List, [], ◌∷◌, map}
 use Prim.Native.Nat.{ℕ, ◌+◌, ◌*◌, ◌^◌, ◌≤◌, ◌<◌}
 use native.Mathlib.Nat.{mul-le-mul}
 use native.Mathlib.Omega.{arith}
@@ -21,15 +21,17 @@ use Rattle.plan.specs.Premium.{terms_of, billed_premium, billed_premiums}
 use Rattle.plan.specs.Bounds.{GroupBounds}
 use Rattle.plan.specs.Demand3.{numbers_in}
 use Rattle.plan.specs.Questions.{passed, first_no, rating_questions, rate_questions, rate_enough, question13}
-use Rattle.plan.specs.Calls.{Answer, given, filled, buffer_after, Rated, rated_of, rate, premium_bytes}
+use Rattle.plan.specs.Call.{Answer, given, filled, buffer_after}
+use Rattle.plan.specs.Calls.{Rated, rated_of, rate, premium_bytes, rate_call}
 use Rattle.plan.specs.Discount.{Layer, guaranteed_cost, rates_pass}
-use Rattle.plan.specs.Comparison.{differences_of, compare_enough, schedule_questions, compare_questions}
-use Rattle.plan.specs.Comparison.{Comparison, comparison_of, compare, NumbersGiven, Sized, Beside}
+use Rattle.plan.specs.Comparison.{differences_of, compare_enough, schedule_questions, compare_questions, compare_call}
+use Rattle.plan.specs.Comparison.{Comparison, comparison_of, compare, numbers_of, Sized, Beside}
 use Rattle.laws.proofs.Tests.{both}
 use Rattle.laws.proofs.Differences.{Differs, of-pos, of-add, of-minus, same, between}
 use Rattle.laws.proofs.Filled.{first-filled}
 use Rattle.laws.proofs.Losses.{length-losses}
-use Rattle.laws.proofs.Questions.{numbers, passed-both, given-passed, after-gate, answered, goes_on, yes-to}
+use Rattle.laws.proofs.Calls.{given-by, answered}
+use Rattle.laws.proofs.Questions.{passed-both, after-gate, goes_on, yes-to}
 use Rattle.laws.proofs.Questions.{RatingSound, rating-sound}
 use Rattle.laws.proofs.Sums.{sum-map, sum-const, sum-le}
 use Rattle.laws.proofs.FileSizes.{group-bounds}
@@ -37,13 +39,6 @@ use Rattle.laws.proofs.GroupSizes.{terms-bounds}
 use Rattle.laws.proofs.Bills as bills
 use Rattle.laws.proofs.Discounts as discounts
 use Rattle.laws.proofs.Demand3.{demand3}
-
--- ---- the order in which the call asks
-
--- 'both after 13, which ends Rate's questions as they then stand'
-asked-in-order : (s : List ℕ) (ls : List Layer) (premiums_room differences_room room : ℕ)
-    → numbers (compare_questions s ls premiums_room differences_room) ≡ numbers (rate_questions s room) ++ 16 ∷ 17 ∷ []
-asked-in-order s ls premiums_room differences_room room = refl
 
 -- ---- the sum of the differences
 
@@ -65,19 +60,19 @@ differences-total cost bills =
 module _ (s : List ℕ) (ls : List Layer) (premiums_room differences_room : ℕ) (c : Comparison)
     (gave : compare s ls premiums_room differences_room ≡ given c) where
   asked : first_no (compare_questions s ls premiums_room differences_room) ≡ passed
-  unfolding compare
-  asked = (given-passed (first_no (compare_questions s ls premiums_room differences_room)) (comparison_of ls (header_of s) (losses_in s)) c gave).0
+  unfolding compare_call
+  asked = (given-by (compare_call s ls premiums_room differences_room) gave).0
 
   pub is : comparison_of ls (header_of s) (losses_in s) ≡ c
-  unfolding compare
-  is = (given-passed (first_no (compare_questions s ls premiums_room differences_room)) (comparison_of ls (header_of s) (losses_in s)) c gave).1
+  unfolding compare_call
+  is = (given-by (compare_call s ls premiums_room differences_room) gave).1
 
   rates : rates_pass ls ≡ true
   rates = yes-to 16 (compare_questions s ls premiums_room differences_room) refl asked
 
   -- Rate, with any buffer that is long enough
   pub rate-gives : (room : ℕ) → 4 * risk_count s ≤ room → rate s room ≡ given c.rated
-  unfolding rate comparison_of
+  unfolding rate_call comparison_of
   rate-gives room h =
       let gate = (passed-both (rating_questions s) (question13 (compare_enough s premiums_room differences_room) ∷ schedule_questions ls) asked).0 in
       let all : first_no (rate_questions s room) ≡ passed =
@@ -150,22 +145,10 @@ module _ (s : List ℕ) (ls : List Layer) (premiums_room differences_room : ℕ)
 
 -- ---- all that is said of it
 
--- the numbers that a call gives, with M as the amount m
-abbrev pub numbers_with : Comparison → ℕ → NumbersGiven
-numbers_with c m = record {
-  risks = c.rated.risks;
-  basic = m;
-  excess = c.rated.excess;
-  billed = c.rated.billed;
-  discount = c.discount;
-  guaranteed = c.guaranteed;
-  difference = c.difference;
-}
-
 -- what such a call gives and leaves in its buffers
 module _ (s : List ℕ) (ls : List Layer) (old_premiums : List ℕ) (old_differences : List ℤ) where
-  abbrev left : Comparison → ℕ → Type 0
-  left c m = Beside s (numbers_with c m) (filled (premium_bytes c.rated) old_premiums) (filled c.differences old_differences)
+  abbrev left : Comparison → Type 0
+  left c = Beside s (numbers_of c) (filled (premium_bytes c.rated) old_premiums) (filled c.differences old_differences)
 
   module _ (c : Comparison) (gave : compare s ls (length old_premiums) (length old_differences) ≡ given c) where
     enough : 4 * risk_count s ≤ length old_premiums
@@ -176,16 +159,20 @@ module _ (s : List ℕ) (ls : List Layer) (old_premiums : List ℕ) (old_differe
     rated : rate s (length old_premiums) ≡ given c.rated
     rated = rate-gives s ls _ _ c gave (length old_premiums) enough
 
-    pub beside : (m : ℕ) → pos m ≡ c.rated.basic → left c m
+    pub beside : left c
     unfolding comparison_of rated_of
-    beside m e =
+    beside =
         let h = header_of s in
         let rs = losses_in s in
+        let m = nat_abs (basic_premium h rs) in
         let bills : List ℕ = billed_premiums h rs in
         let cost : ℕ = guaranteed_cost ls h.standard_premium in
         let all = is s ls _ _ c gave in
         let count : length bills ≡ risk_count s = length-map rs (billed_premium h rs) ∙ length-losses s in
         let t : List ℕ = filled (premium_bytes c.rated) old_premiums in
+        let e : pos m ≡ c.rated.basic =
+        pos-nat_abs (basic_premium h rs) (subst T (sym (sound s ls _ _ c gave).balance.not_negative) tt)
+        ∙ ap (λ (x : Comparison). x.rated.basic) all in
         let d = demand3 s old_premiums c.rated m rated e in
         let numbers : numbers_in t (risk_count s) ≡ bills =
         ap (λ (a : Answer Rated). numbers_in (buffer_after premium_bytes a old_premiums) (risk_count s)) (sym rated) ∙ d.premiums_are in
@@ -215,7 +202,7 @@ module _ (s : List ℕ) (ls : List Layer) (old_premiums : List ℕ) (old_differe
               rate-gives s ls _ _ c gave room long
               ∙ (λ i. given (record {
                 risks = c.rated.risks;
-                basic = sym e i;
+                basic = c.rated.basic;
                 excess = c.rated.excess;
                 billed = c.rated.billed;
                 premiums = (ap (λ (x : Comparison). x.rated.premiums) (sym all) ∙ sym numbers) i;

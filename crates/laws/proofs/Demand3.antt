@@ -18,14 +18,16 @@ use Rattle.plan.specs.Ratable.{ratable}
 use Rattle.plan.specs.Basic.{basic_premium, excess_charge}
 use Rattle.plan.specs.Premium.{terms_of, billed_premium, billed_premiums}
 use Rattle.plan.specs.Demand3.{Demand3, numbers_in, total_with, taxed_expenses_and_losses}
-use Rattle.plan.specs.Questions.{first_no, rating_questions, rate_questions, rate_enough, question13}
+use Rattle.plan.specs.Questions.{rating_questions, rate_enough, question13}
 use Rattle.plan.specs.Bounds.{GroupBounds}
-use Rattle.plan.specs.Calls.{Answer, given, filled, buffer_after, Rated, rated_of, rate, premium_bytes}
+use Rattle.plan.specs.Call.{Answer, given, filled, buffer_after}
+use Rattle.plan.specs.Calls.{Rated, rated_of, rate, premium_bytes, rate_call}
 use Rattle.laws.proofs.Sums.{sum-map, sum-mul, sum_z-pos}
 use Rattle.laws.proofs.Differences.{pos-≤}
 use Rattle.laws.proofs.Fields.{fields-same, bit-append}
 use Rattle.laws.proofs.Written.{width-slots, slots-laid, bytes_of-laid, length-bytes_of}
-use Rattle.laws.proofs.Questions.{passed-both, given-passed, BalanceSound, RatingSound, rating-sound}
+use Rattle.laws.proofs.Calls.{given-by}
+use Rattle.laws.proofs.Questions.{passed-both, BalanceSound, RatingSound, rating-sound}
 use Rattle.laws.proofs.Rounding.{Within, sum-within}
 use Rattle.laws.proofs.Balance.{premium_total, balance, total-injective}
 use Rattle.laws.proofs.Losses.{length-losses}
@@ -127,9 +129,9 @@ demanded s old m f is =
 -- of whatever Rate gives: the M, Q and sum, and the lent buffer after the call
 pub demand3 : (s old : List ℕ) (r : Rated) (m : ℕ) → rate s (length old) ≡ given r → pos m ≡ r.basic
     → Demand3 s m r.excess r.billed (buffer_after premium_bytes (rate s (length old)) old)
-unfolding rate rated_of
+unfolding rate_call rated_of
 demand3 s old r m e is =
-    let p = given-passed (first_no (rate_questions s (length old))) (rated_of (header_of s) (losses_in s)) r e in
+    let p = given-by (rate_call s (length old)) e in
     let f : RatingSound s =
     rating-sound s (passed-both (rating_questions s) (question13 (rate_enough s (length old)) ∷ []) p.0).0 in
     let d = demanded s old m f (is ∙ ap (λ (x : Rated). x.basic) (sym p.1)) in

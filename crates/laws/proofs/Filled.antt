@@ -6,7 +6,7 @@ use Prim.Native.Nat.{ℕ, suc, ◌+◌, ◌≤◌, ◌<◌}
 use native.Mathlib.Omega.{arith}
 use lib.ListN.{length, take, drop, set, length-append, length-drop}
 use lib.Seq.{drop-cons, set_at, append_snoc, drop_at, drop-drop, take-length, paste, take-append_seam}
-use Rattle.plan.specs.Calls.{filled}
+use Rattle.plan.specs.Call.{filled}
 
 module _ {A : Type 0} where
   pub filled_none : (old : List A) → old ≡ filled [] old

@@ -16,7 +16,8 @@ pub mod FirstEdition
 pub mod Filled
 pub mod Questions
 pub mod Curve
-pub mod Answers
+pub mod Calls
+pub mod CallOrder
 pub mod FileSizes
 pub mod GroupSizes
 pub mod Bills
@@ -28,7 +29,6 @@ pub mod MarksAsWritten
 pub mod Columns
 pub mod RowSums
 pub mod Thousandths
-pub mod Charges
 pub mod Halvings
 pub mod PremiumTotals
 pub mod Plans
@@ -36,3 +36,4 @@ pub mod QuestionFewer
 pub mod Decoded
 pub mod Writable
 pub mod RoundTrip
+pub mod LargestFile

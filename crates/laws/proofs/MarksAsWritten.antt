@@ -10,18 +10,20 @@ use Rattle.plan.specs.Losses.{losses_in}
 use Rattle.plan.specs.Table.{charge, savings}
 use Rattle.plan.specs.Questions.{Question, first_no, question3, question4, question5, question6, question7}
 use Rattle.plan.specs.Questions.{header_questions, rate_questions, table_questions, read_questions, write_questions}
-use Rattle.plan.specs.Calls.{given, answer, rated_of, rate, table, read, write}
+use Rattle.plan.specs.Call.{given, answer}
+use Rattle.plan.specs.Calls.{rated_of, rate, table, read, write, rate_call, table_call, read_call, write_call}
 use Rattle.plan.specs.Discount.{Layer}
-use Rattle.plan.specs.Comparison.{compare_questions, comparison_of, compare}
+use Rattle.plan.specs.Comparison.{compare_questions, comparison_of, compare, compare_call}
 use Rattle.laws.proofs.Tests.{and_yes}
-use Rattle.laws.proofs.Questions.{without, left_out, passed-yes, answered, given-passed}
+use Rattle.laws.proofs.Calls.{answered, given-passed}
+use Rattle.laws.proofs.Questions.{without, left_out, passed-yes}
 
 -- ---- the lists without 18
 
 abbrev without_eighteen : List Question → List Question
 without_eighteen = without 18
 
--- 18 stands once in the list of each call on a file and of Write (`asked-in-order`), in this gate; without it the gate is document 01's 3 to 7
+-- 18 stands once in the list of each call on a file and of Write (`CallOrder.in-order`), in this gate; without it the gate is document 01's 3 to 7
 three-to-seven : (h : Header) (n : ℕ) → without_eighteen (header_questions h n) ≡ question3 h ∷ question4 h ∷ question5 h ∷ question6 h ∷ question7 n ∷ []
 three-to-seven h n = refl
 
@@ -42,7 +44,7 @@ pub record FileAnswersStay (s : List ℕ) : Type 0 where
       ≡ compare s ls premiums_room differences_room
 
 pub file-answers-stay : (s : List ℕ) → (header_of s).minimum_mark ≤ (header_of s).maximum_mark → FileAnswersStay s
-unfolding rate table read compare
+unfolding rate_call table_call read_call compare_call
 file-answers-stay s h =
     let yes = and_yes (le-leb _ _ h) refl in
     record {
@@ -57,7 +59,7 @@ file-answers-stay s h =
 -- of Write, of values that pass 18
 pub write-stays : (g : Group) → g.header.minimum_mark ≤ g.header.maximum_mark → (room : ℕ)
     → answer (first_no (without_eighteen (write_questions g room))) (file_of g) ≡ write g room
-unfolding write
+unfolding write_call
 write-stays g h room = answered _ (left_out 18 (write_questions g room) (and_yes (le-leb _ _ h) refl))
 
 -- ---- what is still accepted

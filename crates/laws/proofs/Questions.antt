@@ -14,33 +14,21 @@ use lib.ListN.{length}
 use borrow.Author.Tests.{leb-true, le-leb, eqb-true, eq-eqb}
 use Rattle.plan.specs.Header.{Header, header_of, edition_of, risk_count, value_of, spare_field}
 use Rattle.plan.specs.Field.{bytes_for}
-use Rattle.plan.specs.File.{Group, risks_of, end_of, fill_of}
+use Rattle.plan.specs.File.{risks_of, end_of, fill_of}
 use Rattle.plan.specs.Accidents.{all_open}
 use Rattle.plan.specs.Losses.{Losses, SA, losses_in}
 use Rattle.plan.specs.Basic.{basic_premium}
 use Rattle.plan.specs.Questions.{Question, ask, Verdict, passed, failed, first_no, or_else, known_edition, question1, question2}
 use Rattle.plan.specs.Questions.{question10}
 use Rattle.plan.specs.Questions.{header_questions, end_questions, file_questions, balance_questions, loss_questions, rating_questions}
-use Rattle.plan.specs.Questions.{rate_questions, table_questions, read_questions, write_questions}
 use Rattle.plan.specs.Bounds.{HeaderSound}
-use Rattle.plan.specs.Calls.{refused, given, answer}
 use Rattle.laws.proofs.Tests.{both, and_yes}
 
--- ---- the order in which each call asks
+-- ---- the numbers that a list asks, in its order
 
 abbrev pub numbers : List Question → List ℕ
 numbers [] = []
 numbers (ask k b ∷ qs) = k ∷ numbers qs
-
--- 'Rate asks 1 to 13. Table asks 1 to 10, then 14. Read asks 1 to 9, then 13. Write asks 3 to 7, then 15, then 13.' And document 02,
--- job 2: '18 .., after 6 and before 7, in Rate, Read, Table and Write'; job 4: '19 .., after 9 in Rate, Read and Table, after 15 and
--- before 13 in Write', which 'asks question 2 of the edition first'; job 7: 'take question 11 out of the rater'
-asked-in-order : (s : List ℕ) (room r counts_room claims_room joined_room : ℕ) (g : Group)
-    → (numbers (rate_questions s room) ≡ 1 ∷ 2 ∷ 3 ∷ 4 ∷ 5 ∷ 6 ∷ 18 ∷ 7 ∷ 8 ∷ 9 ∷ 19 ∷ 10 ∷ 12 ∷ 13 ∷ [])
-    × (numbers (table_questions s r) ≡ 1 ∷ 2 ∷ 3 ∷ 4 ∷ 5 ∷ 6 ∷ 18 ∷ 7 ∷ 8 ∷ 9 ∷ 19 ∷ 10 ∷ 14 ∷ [])
-    × (numbers (read_questions s counts_room claims_room joined_room) ≡ 1 ∷ 2 ∷ 3 ∷ 4 ∷ 5 ∷ 6 ∷ 18 ∷ 7 ∷ 8 ∷ 9 ∷ 19 ∷ 13 ∷ [])
-    × (numbers (write_questions g room) ≡ 2 ∷ 3 ∷ 4 ∷ 5 ∷ 6 ∷ 18 ∷ 7 ∷ 15 ∷ 19 ∷ 13 ∷ [])
-asked-in-order s room r counts_room claims_room joined_room g = (refl, refl, refl, refl)
 
 -- ---- one question
 
@@ -145,20 +133,6 @@ passed-yes k (ask n true ∷ qs) e = and_yes (either (eqb n k)) (passed-yes k qs
     either true = refl
     either false = refl
 passed-yes k (ask n false ∷ qs) e = cc
-
--- ---- what is given is what the questions passed
-
-pub given-passed : {A : Type 0} (v : Verdict) (a b : A) → answer v a ≡ given b → (v ≡ passed) × (a ≡ b)
-given-passed passed a b e = (refl, cc)
-given-passed (failed k) a b e = (cc, cc)
-
-pub refused-failed : {A : Type 0} (v : Verdict) (a : A) {k : ℕ} → answer v a ≡ refused k → v ≡ failed k
-refused-failed passed a e = cc
-refused-failed (failed j) a e = cc
-
--- what a verdict answers
-pub answered : {A : Type 0} {v w : Verdict} (a : A) → v ≡ w → answer v a ≡ answer w a
-answered a e = ap (λ (v : Verdict). answer v a) e
 
 -- ---- the facts that passed questions give, by number
 

@@ -18,9 +18,9 @@ use Rattle.plan.specs.Risk.{divided, slots_of_risks}
 use Rattle.plan.specs.File.{Group, counts_of, risks_of, claims_in, end_of, group_of, claims_given, file_slots, file_of}
 use Rattle.plan.specs.Accidents.{all_open}
 use Rattle.plan.specs.Questions.{passed, first_no, known_edition, file_questions, header_fits, question13, read_enough, read_questions}
-use Rattle.plan.specs.Questions.{write_questions}
 use Rattle.plan.specs.Bounds.{HeaderSound}
-use Rattle.plan.specs.Calls.{given, read, write}
+use Rattle.plan.specs.Call.{given}
+use Rattle.plan.specs.Calls.{read, write, read_call, write_call}
 use Rattle.laws.proofs.Fields.{Bytes, field_lt, number-zero, zero_bits}
 use Rattle.laws.proofs.Written.{width-append, length-bytes_of, bytes_of-laid, bytes_of-fill, bytes_of-unique}
 use Rattle.laws.proofs.Claims.{claims-of-parts}
@@ -28,7 +28,8 @@ use Rattle.laws.proofs.Risks.{length-counts, divided-again, counts_fit, all-doll
 use Rattle.laws.proofs.Decoded.{slots_of, file-laid, file-end, FileTaken, laid-file, taken-group, own-matching}
 use Rattle.laws.proofs.Writable.{file-fitting, WriteSound, write-sound, write-passes, written-matching}
 use Rattle.laws.proofs.Tests.{and_yes}
-use Rattle.laws.proofs.Questions.{passed-both, after-gate, given-passed, answered, FileSound, file-sound, file-passes}
+use Rattle.laws.proofs.Calls.{given-by, answered}
+use Rattle.laws.proofs.Questions.{passed-both, after-gate, FileSound, file-sound, file-passes}
 
 -- ---- what is read can be written
 
@@ -80,9 +81,9 @@ file-is s bytes f =
 -- Write of what Read gives yields the same bytes
 pub read-write : (s : List ℕ) (counts_room claims_room joined_room room : ℕ) (g : Group) → Bytes s
     → read s counts_room claims_room joined_room ≡ given g → length s ≤ room → write g room ≡ given s
-unfolding read write
+unfolding read_call write_call
 read-write s counts_room claims_room joined_room room g bytes e enough =
-    let p = given-passed (first_no (read_questions s counts_room claims_room joined_room)) (group_of s) g e in
+    let p = given-by (read_call s counts_room claims_room joined_room) e in
     let f : FileSound s =
     file-sound s (passed-both (file_questions s) (question13 (read_enough s counts_room claims_room joined_room) ∷ []) p.0).0 in
     let is = file-is s bytes f in
@@ -139,9 +140,9 @@ module _ (g : Group) (w : WriteSound g) where
 pub write_read : (g : Group) (room counts_room claims_room joined_room : ℕ) (b : List ℕ) → write g room ≡ given b
     → length g.counts ≤ counts_room → length g.claims ≤ claims_room → length g.claims ≤ joined_room
     → read b counts_room claims_room joined_room ≡ given g
-unfolding read write
+unfolding read_call write_call
 write_read g room counts_room claims_room joined_room b e enough-counts enough-claims enough-joined =
-    let p = given-passed (first_no (write_questions g room)) (file_of g) b e in
+    let p = given-by (write_call g room) e in
     let w : WriteSound g = write-sound g room p.0 in
     let s : List ℕ = file_of g in
     let is : group_of s ≡ g = made-group g w in

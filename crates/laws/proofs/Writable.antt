@@ -1,18 +1,18 @@
 -- What Write asks of given values, as facts, both ways: from a Yes to its questions the facts, and from the facts and room
 -- enough a Yes. Values that pass question 15 fit the fields that they are written in. Assumes nothing.
-use mathlib.Core.Path.{◌≡◌, refl, ◌∙◌}
+use mathlib.Core.Path.{◌≡◌, refl, ap, ◌∙◌}
 use mathlib.Core.Bool.{Bool, true, false, ◌||◌}
 use mathlib.Core.List.{List, [], ◌∷◌, ◌++◌}
-use Prim.Native.Nat.{ℕ, ◌^◌, ◌*◌, ◌≤◌, ◌<◌}
+use Prim.Native.Nat.{ℕ, ◌+◌, ◌^◌, ◌*◌, ◌≤◌, ◌<◌}
 use native.Mathlib.Omega.{arith}
 use borrow.Author.Tests.{ltb-true, le-leb, eqb-true, eq-eqb}
 use lib.Dec.{lit<, eqb}
 use lib.ListN.{length}
 use Rattle.plan.specs.Arithmetic.{sum}
 use Rattle.plan.specs.Sizes.{most_risks, most_claims}
-use Rattle.plan.specs.Field.{slots, Fitting, fits, all_fit}
-use Rattle.plan.specs.Header.{Header, header_slots, edition_field, risks_field}
-use Rattle.plan.specs.Claim.{joined_width, dollars_width}
+use Rattle.plan.specs.Field.{slots, Fitting, fits, all_fit, bytes_for}
+use Rattle.plan.specs.Header.{Header, header_bits, header_slots, edition_field, risks_field}
+use Rattle.plan.specs.Claim.{joined_width, dollars_width, claim_width}
 use Rattle.plan.specs.Risk.{count_width, divided, slots_of_risks}
 use Rattle.plan.specs.File.{Group, claims_given, file_slots, file_length}
 use Rattle.plan.specs.Accidents.{all_open}
@@ -20,8 +20,9 @@ use Rattle.plan.specs.Questions.{passed, first_no, known_edition, edition_questi
 use Rattle.plan.specs.Questions.{question19, value_questions, write_enough, write_questions}
 use Rattle.plan.specs.Bounds.{HeaderSound}
 use Rattle.laws.proofs.Tests.{both, and_yes}
-use Rattle.laws.proofs.Written.{fitting-append}
-use Rattle.laws.proofs.Risks.{risks-fitting, counts-most}
+use Rattle.laws.proofs.Written.{fitting-append, width-append, length-bytes_of}
+use Rattle.laws.proofs.Claims.{length-claims-of}
+use Rattle.laws.proofs.Risks.{risks-fitting, risks-width, counts-most}
 use Rattle.laws.proofs.Questions.{yes-to, goes_on, passed-both, after-gate, header-sound, header-passes}
 use Rattle.laws.proofs.Decoded.{Matching}
 
@@ -106,6 +107,22 @@ risks-few {g} w = omega (arith, ltb-true (length g.counts) (2 ^ risks_field.widt
 pub claims-few : {g : Group} → Writable g → length g.claims ≤ most_claims * most_risks
 claims-few {g} w =
     omega (arith, counts-most g.counts (all-below count_width g.counts w.counts_fit), w.adds, risks-few w)
+
+-- the file's length: the header, a count for each risk, and as many claims as the counts add to
+pub file-length : {g : Group} → Writable g
+    → file_length g
+    ≡ bytes_for (header_bits + count_width * length g.counts + claim_width g.edition * length g.claims)
+file-length {g} w =
+    length-bytes_of (file_slots g)
+    ∙ ap bytes_for
+    (omega (
+      arith,
+      width-append (header_slots g.edition g.header (length g.counts))
+          (slots_of_risks g.edition g.counts (claims_given g)),
+      risks-width g.edition g.counts (claims_given g)
+          (omega (arith, w.adds, length-claims-of g.joined g.claims w.bits)),
+      ap (λ (n : ℕ). claim_width g.edition * n) w.adds,
+    ))
 
 -- counts and lists match
 pub written-matching : {g : Group} → Writable g → Matching g

@@ -6,7 +6,8 @@ use lib.IntN.{pos}
 use Rattle.plan.specs.Losses.{limited_of}
 use Rattle.plan.specs.Marks.{LG, LH}
 use Rattle.plan.specs.Ratable.{ratable, SX, SS}
-use Rattle.plan.specs.Calls.{given, refused, rated_of, rate, table, read, write}
+use Rattle.plan.specs.Call.{given, refused}
+use Rattle.plan.specs.Calls.{rated_of, rate, table, read, write, rate_call, table_call, read_call, write_call}
 use Rattle.plan.specs.Arithmetic.{nearest}
 use Rattle.plan.specs.Field.{bit, number, field, bytes_of}
 use Rattle.plan.specs.Claim.{claim_width, claim_at, past_claim, slots_of_claim, claim}
@@ -14,7 +15,7 @@ use Rattle.plan.specs.Risk.{count_at, first_claim}
 use Rattle.plan.specs.Basic.{basic_premium, excess_charge}
 use Rattle.plan.specs.Premium.{bill_rounding, bill_with}
 use Rattle.plan.specs.Demand3.{total_with, taxed_expenses_and_losses}
-use Rattle.plan.specs.Comparison.{compare}
+use Rattle.plan.specs.Comparison.{compare, compare_call}
 use Rattle.plan.specs.Accidents.{accidents_of}
 use Rattle.plan.proofs.Groups.{header, group, Written, four_file, rates, totals, limiteds, stock, four_joining, four_joining_file, scaffold_header, scaffold, scaffold_file, apart_file, single_file, accidents, accidents_file, leading, leading_file, leading_filled_file, leading_nothing, leading_nothing_file, four_rated}
 use Rattle.plan.proofs.FieldCases.{by_fields}
@@ -78,7 +79,7 @@ AccidentsCase =
     × (read single_file 2 2 1 ≡ refused 13)
 
 pub accidents_case : AccidentsCase
-unfolding bytes_of number bit field claim_width claim_at past_claim slots_of_claim count_at first_claim limited_of LG LH SX SS ratable basic_premium excess_charge nearest bill_rounding bill_with rated_of rate total_with taxed_expenses_and_losses table read write compare
+unfolding bytes_of number bit field claim_width claim_at past_claim slots_of_claim count_at first_claim limited_of LG LH SX SS ratable basic_premium excess_charge nearest bill_rounding bill_with rated_of rate_call total_with taxed_expenses_and_losses table_call read_call write_call compare_call
 accidents_case = by_fields (
   refl,
   refl,

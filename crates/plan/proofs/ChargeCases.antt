@@ -1,9 +1,9 @@
 -- Document 02, job 5, on columns .36, .44 and .52 at r 0, 0.50, 1.00, 2.00 and 5.00: the double by its bits, and its thousandths
 use mathlib.Core.Path.{◌≡◌, refl}
 use lib.IntN.{pos, negsuc}
-use Rattle.plan.specs.Calls.{refused}
+use Rattle.plan.specs.Call.{refused, IfGiven}
 use lib.Ieee.{of_bits, of_int, add, mul, div, le, Float, fin, binary64}
-use Rattle.plan.specs.Charge.{charge_double, greatest, thousandths, charge1965, exact_denominator, OnTableAfter, Within, exact_numerator, raised}
+use Rattle.plan.specs.Charge.{charge_double, greatest, thousandths, charge1965, exact_denominator, OnTable, Within, exact_numerator, raised, charge_call}
 use Rattle.plan.proofs.Groups.{charged}
 use mathlib.Core.Bool.{true, false}
 use lib.Dec.{leb}
@@ -63,7 +63,7 @@ ChargeCase =
     × (charge1965 0 4294967295 ≡ refused 20)
 
 pub charge_case : ChargeCase
-unfolding charge_double charge1965 exact_denominator thousandths greatest add mul div le of_int of_bits
+unfolding charge_double charge_call exact_denominator thousandths greatest add mul div le of_int of_bits
 charge_case = by_fields (
   refl,
   refl,
@@ -112,7 +112,7 @@ charge_case = by_fields (
 -- what is promised of a charge, at r 1.00; and how far rows are off 1 ÷ column − 2: .40 by nothing, .48 by more than 1 ten-millionth
 abbrev pub TenfoldCase : Type 0
 TenfoldCase =
-    ((x : Float) (n : ℕ) → OnTableAfter (charge1965 36 100) 36 100 x n
+    ((x : Float) (n : ℕ) → IfGiven (charge1965 36 100) (OnTable 36 100 x n)
     → Within x exact_numerator (pos 277777790000000000000000) × (n ≡ 360))
     -- within a millionth: a half and 0.500001, and 0.499999, each just so
     × (Within (fin false 1 (negsuc 0)) 1000002 (pos 2000000) → (0 < 2000000) × (4 * 1000000 ≤ 2000000 * 2))
@@ -124,5 +124,5 @@ TenfoldCase =
     × ((column : ℕ) → RowSumRule column → row_off column ≤ 2 * column)
 
 pub tenfold_case : TenfoldCase
-unfolding charge_double charge1965 exact_denominator thousandths greatest add mul div le of_int of_bits
+unfolding charge_double charge_call exact_denominator thousandths greatest add mul div le of_int of_bits
 tenfold_case = by_fields (λ x n b. (b.within, b.tenfold refl), λ w. w, λ w. w, refl, refl, refl, refl, λ column rule. rule)

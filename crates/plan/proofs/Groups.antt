@@ -9,7 +9,8 @@ use Rattle.plan.specs.File.{Group, file_of}
 use Rattle.plan.specs.Losses.{losses_in}
 use Rattle.plan.specs.Marks.{LG, LH}
 use Rattle.plan.specs.Ratable.{ratable}
-use Rattle.plan.specs.Calls.{Answer, given, Rated, Tabled}
+use Rattle.plan.specs.Call.{Answer, given}
+use Rattle.plan.specs.Calls.{Rated, Tabled}
 use Rattle.plan.specs.Discount.{Layer}
 use Rattle.plan.specs.Comparison.{Comparison, NumbersGiven}
 use lib.Ieee.{binary64, of_bits}
@@ -148,7 +149,7 @@ abbrev pub four_numbers : NumbersGiven
 four_numbers =
     record {
       risks = 4;
-      basic = 6700000;
+      basic = pos 6700000;
       excess = 3300000;
       billed = 33600;
       discount = 545;

@@ -4,7 +4,8 @@ use mathlib.Core.List.{[], ◌∷◌, ◌++◌}
 use Rattle.plan.specs.Losses.{limited_of}
 use Rattle.plan.specs.Marks.{LG, LH}
 use Rattle.plan.specs.Ratable.{ratable, SX, SS}
-use Rattle.plan.specs.Calls.{refused, rated_of, rate}
+use Rattle.plan.specs.Call.{refused, IfGiven, BuffersAfter}
+use Rattle.plan.specs.Calls.{rated_of, rate}
 use Rattle.plan.specs.Arithmetic.{nearest}
 use Rattle.plan.specs.Field.{bit, number, field, bytes_of}
 use Rattle.plan.specs.Claim.{claim_width, claim_at, past_claim}
@@ -12,7 +13,7 @@ use Rattle.plan.specs.Risk.{count_at, first_claim}
 use Rattle.plan.specs.Basic.{basic_premium, excess_charge}
 use Rattle.plan.specs.Premium.{bill_rounding, bill_with}
 use Rattle.plan.specs.Discount.{discount_sum, discount, guaranteed_cost, widths_pass}
-use Rattle.plan.specs.Comparison.{comparison_of, compare, BesideAfter, Sized, compare_premiums, compare_differences}
+use Rattle.plan.specs.Comparison.{comparison_of, compare, Beside, Sized, compare_buffers, compare_call}
 use Rattle.plan.proofs.Groups.{four_file, tens_file2000, layer, stock, four_beside, four_numbers, four_premiums, four_differences, rates}
 use Prim.Native.Nat.{◌+◌, ℕ, ◌*◌, ◌≤◌}
 use lib.IntN.{negsuc, pos, ◌-ℤ◌}
@@ -52,25 +53,27 @@ GuaranteedCase =
     × (compare tens_file2000 (layer 0 1001 ∷ layer 0 1001 ∷ layer 0 1001 ∷ layer 0 1001 ∷ []) 0 0 ≡ refused 12)
 
 pub guaranteed_case : GuaranteedCase
-unfolding number bit field claim_width claim_at past_claim count_at first_claim limited_of LG LH SX SS ratable basic_premium excess_charge nearest bill_rounding bill_with rated_of discount guaranteed_cost comparison_of compare
+unfolding number bit field claim_width claim_at past_claim count_at first_claim limited_of LG LH SX SS ratable basic_premium excess_charge nearest bill_rounding bill_with rated_of discount guaranteed_cost comparison_of compare_call
 guaranteed_case = by_fields (refl, refl, refl, refl, refl, refl, refl, refl, refl, refl, refl, refl, refl, refl, refl, refl, refl, refl, refl)
 
 -- its two buffers after the call, each longer than it need be; and after refusals, which keep them
 abbrev pub BesideBufferCase : Type 0
 BesideBufferCase =
-    (compare_premiums four_file (stock 0) (replicate 18 9) (replicate 5 (pos 9)) ≡ four_premiums ++ 9 ∷ 9 ∷ [])
-    × (compare_differences four_file (stock 0) (replicate 18 9) (replicate 5 (pos 9)) ≡ four_differences ++ pos 9 ∷ [])
-    × (compare_premiums four_file (stock 0) (replicate 16 9) (replicate 3 (pos 9)) ≡ replicate 16 9)
-    × (compare_differences four_file (stock 0) (replicate 15 9) (replicate 4 (pos 9)) ≡ replicate 4 (pos 9))
+    BuffersAfter (compare four_file (stock 0) 18 5)
+    (compare_buffers (replicate 18 9) (replicate 5 (pos 9)) (four_premiums ++ 9 ∷ 9 ∷ []) (four_differences ++ pos 9 ∷ []))
+    × BuffersAfter (compare four_file (stock 0) 16 3)
+    (compare_buffers (replicate 16 9) (replicate 3 (pos 9)) (replicate 16 9) (replicate 3 (pos 9)))
+    × BuffersAfter (compare four_file (stock 0) 15 4)
+    (compare_buffers (replicate 15 9) (replicate 4 (pos 9)) (replicate 15 9) (replicate 4 (pos 9)))
 
 pub beside_buffer_case : BesideBufferCase
-unfolding bytes_of number bit field claim_width claim_at past_claim count_at first_claim limited_of LG LH SX SS ratable basic_premium excess_charge nearest bill_rounding bill_with rated_of discount guaranteed_cost comparison_of compare
-beside_buffer_case = by_fields (refl, refl, refl, refl)
+unfolding bytes_of number bit field claim_width claim_at past_claim count_at first_claim limited_of LG LH SX SS ratable basic_premium excess_charge nearest bill_rounding bill_with rated_of discount guaranteed_cost comparison_of compare_call
+beside_buffer_case = by_fields ((refl, (refl, tt)), (refl, (refl, tt)), (refl, (refl, tt)))
 
 -- what the call promises beside Rate, of the group of four, field by field
 abbrev pub BesideCase : Type 0
 BesideCase =
-    BesideAfter (compare four_file (stock 0) 16 4) four_file four_numbers four_premiums four_differences
+    IfGiven (compare four_file (stock 0) 16 4) (Beside four_file four_numbers four_premiums four_differences)
     → (545 ≤ 10000)
     × (9455 + 545 ≡ 10000)
     × (four_differences ≡ four_differences)
@@ -84,7 +87,7 @@ BesideCase =
     × ((room : ℕ) → 4 * 4 ≤ room → rate four_file room ≡ rates 4 (pos 6700000) 3300000 33600 (4935 ∷ 7245 ∷ 8400 ∷ 13020 ∷ []))
 
 pub beside_case : BesideCase
-unfolding number bit field claim_width claim_at past_claim count_at first_claim limited_of LG LH SX SS ratable basic_premium excess_charge nearest bill_rounding bill_with rated_of discount guaranteed_cost comparison_of compare
+unfolding number bit field claim_width claim_at past_claim count_at first_claim limited_of LG LH SX SS ratable basic_premium excess_charge nearest bill_rounding bill_with rated_of discount guaranteed_cost comparison_of compare_call
 beside_case = by_fields (λ b. (
   b.discount_most,
   b.less_discount,

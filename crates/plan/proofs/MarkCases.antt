@@ -5,14 +5,15 @@ use lib.IntN.{pos}
 use Rattle.plan.specs.Losses.{limited_of}
 use Rattle.plan.specs.Marks.{LG, LH}
 use Rattle.plan.specs.Ratable.{ratable, SX, SS}
-use Rattle.plan.specs.Calls.{given, refused, rated_of, rate, table, read, write}
+use Rattle.plan.specs.Call.{given, refused}
+use Rattle.plan.specs.Calls.{rated_of, rate, table, read, write, rate_call, table_call, read_call, write_call}
 use Rattle.plan.specs.Arithmetic.{nearest}
 use Rattle.plan.specs.Field.{bit, number, field, bytes_of}
 use Rattle.plan.specs.Claim.{claim_width, claim_at, past_claim, slots_of_claim}
 use Rattle.plan.specs.Risk.{count_at, first_claim}
 use Rattle.plan.specs.Basic.{basic_premium, excess_charge}
 use Rattle.plan.specs.Premium.{bill_rounding, bill_with}
-use Rattle.plan.specs.Comparison.{compare}
+use Rattle.plan.specs.Comparison.{compare, compare_call}
 use Rattle.plan.proofs.Groups.{group, Written, rates, lg, lh, stock, marked, crossing, crossing_file1, crossing_file1000, entry_file, equal_file, above_file, no_risks_file}
 use Rattle.plan.proofs.FieldCases.{by_fields}
 
@@ -49,5 +50,5 @@ MarksCase =
     × (write (group (crossing 1).header [] []) 16 ≡ refused 18)
 
 pub marks_case : MarksCase
-unfolding bytes_of number bit field claim_width claim_at past_claim slots_of_claim count_at first_claim limited_of LG LH SX SS ratable basic_premium excess_charge nearest bill_rounding bill_with rated_of rate table read write compare
+unfolding bytes_of number bit field claim_width claim_at past_claim slots_of_claim count_at first_claim limited_of LG LH SX SS ratable basic_premium excess_charge nearest bill_rounding bill_with rated_of rate_call table_call read_call write_call compare_call
 marks_case = by_fields (refl, refl, refl, refl, refl, refl, refl, refl, refl, refl, refl, refl, refl, refl, refl, refl, refl, refl, refl, refl, refl, refl, refl)

@@ -6,14 +6,15 @@ use Rattle.plan.specs.Header.{header_of}
 use Rattle.plan.specs.Losses.{losses_in, limited_of}
 use Rattle.plan.specs.Marks.{LG, LH}
 use Rattle.plan.specs.Ratable.{ratable, SX, SS}
-use Rattle.plan.specs.Calls.{refused, rated_of, rate}
+use Rattle.plan.specs.Call.{refused}
+use Rattle.plan.specs.Calls.{rated_of, rate, rate_call}
 use Rattle.plan.specs.Arithmetic.{nearest}
 use Rattle.plan.specs.Field.{bit, number, field, bytes_of}
 use Rattle.plan.specs.Claim.{claim_width, claim_at, past_claim, slots_of_claim}
 use Rattle.plan.specs.Risk.{count_at, first_claim}
 use Rattle.plan.specs.Basic.{basic_premium, excess_charge}
 use Rattle.plan.specs.Premium.{bill_rounding, bill_with}
-use Rattle.plan.specs.Comparison.{compare}
+use Rattle.plan.specs.Comparison.{compare, compare_call}
 use Rattle.plan.proofs.Groups.{header, group, Written, rates, lg, lh, stock, marked, half_file, next_entry_file, next_loss_file, expense_file}
 use Rattle.plan.proofs.FieldCases.{by_fields}
 
@@ -42,5 +43,5 @@ OrderCase =
     × (rate expense_file 4 ≡ refused 18)
 
 pub order_case : OrderCase
-unfolding bytes_of number bit field claim_width claim_at past_claim slots_of_claim count_at first_claim limited_of LG LH SX SS ratable basic_premium excess_charge nearest bill_rounding bill_with rated_of rate compare
+unfolding bytes_of number bit field claim_width claim_at past_claim slots_of_claim count_at first_claim limited_of LG LH SX SS ratable basic_premium excess_charge nearest bill_rounding bill_with rated_of rate_call compare_call
 order_case = by_fields (refl, refl, refl, refl, refl, refl, refl, refl, refl, refl, refl, refl, refl, refl, refl, refl, refl)

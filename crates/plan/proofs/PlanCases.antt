@@ -5,14 +5,14 @@ use lib.IntN.{ℤ, pos, negsuc, ◌-ℤ◌}
 use Rattle.plan.specs.Losses.{limited_of}
 use Rattle.plan.specs.Marks.{LG, LH}
 use Rattle.plan.specs.Ratable.{ratable, SX, SS}
-use Rattle.plan.specs.Calls.{refused}
+use Rattle.plan.specs.Call.{refused, IfGiven, IfRefused}
 use Rattle.plan.specs.Arithmetic.{nearest}
 use Rattle.plan.specs.Field.{bit, number, field}
 use Rattle.plan.specs.Claim.{claim_width, claim_at, past_claim}
 use Rattle.plan.specs.Risk.{count_at, first_claim}
 use Rattle.plan.specs.Basic.{basic_premium, excess_charge}
 use Rattle.plan.specs.Demand3.{taxed_expenses_and_losses}
-use Rattle.plan.specs.SoldOnPremiums.{premiums_at, halvings, plan_for, Sold, Finished, SoldAfter, bound_questions}
+use Rattle.plan.specs.SoldOnPremiums.{premiums_at, halvings, plan_for, Sold, Finished, Unsold, bound_questions, plan_call}
 use Rattle.plan.proofs.Groups.{four_file, tens_file2000, crossing_file1, plans, unbounded}
 use Rattle.plan.specs.Questions.{passed, first_no}
 use Rattle.plan.proofs.FieldCases.{by_fields}
@@ -49,13 +49,13 @@ PlanCase =
     × (plan_for tens_file2000 unbounded 0 20 ≡ plans 20 0 (negsuc 0))
 
 pub plan_case : PlanCase
-unfolding number bit field claim_width claim_at past_claim count_at first_claim limited_of LG LH SX SS ratable basic_premium excess_charge nearest taxed_expenses_and_losses premiums_at halvings plan_for
+unfolding number bit field claim_width claim_at past_claim count_at first_claim limited_of LG LH SX SS ratable basic_premium excess_charge nearest taxed_expenses_and_losses premiums_at halvings plan_call
 plan_case = by_fields (refl, refl, refl, refl, refl, refl, refl, refl, refl, refl, refl, refl, refl, refl, refl, refl, refl, refl, refl)
 
 -- what is promised of a plan, field by field: by Rate's own bounds, the most that a finished plan is over by, and of a refusal by 23
 abbrev pub SoldCase : Type 0
 SoldCase =
-    (SoldAfter (plan_for four_file 13020 4935 20) four_file 13020 4935 20 20 1675 (pos 1674)
+    (IfGiven (plan_for four_file 13020 4935 20) (Sold four_file 13020 4935 20 20 1675 (pos 1674))
     → (1675 ≤ 1048575)
     × (10000000 * 4 * 33600 ≤ 10000000 * 4 * 33600)
     × (10000000 * 4 * 33600 - 2 * 42000000 < 10000000 * 4 * 33600)
@@ -66,19 +66,20 @@ SoldCase =
     × (Finished 1675 (pos 1674) → (b : ℕ) → b < 1675 → premiums_at four_file 13020 4935 b < 10000000 * 4 * 33600))
     × (Sold four_file unbounded 2500 20 20 1349 (pos 1348)
     → Finished 1349 (pos 1348) → 0 < 1349 → 1344124000000 ≤ 1344000000000 + 168000000)
-    × (SoldAfter (plan_for four_file 8399 0 20) four_file 8399 0 20 0 0 (pos 0)
-    → (◌≡◌ {A = ℕ} 23 23 → (b : ℕ) → b ≤ 1048575 → premiums_at four_file 8399 0 b < 10000000 * 4 * 33600)
+    × (IfRefused (plan_for four_file 8399 0 20) (Unsold four_file 8399 0)
+    → (◌≡◌ {A = ℕ} 23 23 → first_no (bound_questions four_file 8399 0) ≡ passed)
+    × (◌≡◌ {A = ℕ} 23 23 → (b : ℕ) → b ≤ 1048575 → premiums_at four_file 8399 0 b < 10000000 * 4 * 33600)
     × (first_no (bound_questions four_file 8399 0) ≡ passed → ◌≡◌ {A = ℕ} 23 23))
     × ((best : ℕ) (short : ℤ) → Finished best short → pos best -ℤ short ≡ pos 1)
     -- of 10 trials 10 are made
     × (Sold four_file 13020 4935 10 10 2047 (pos 1023) → ◌≡◌ {A = ℕ} 10 10)
 
 pub sold_case : SoldCase
-unfolding number bit field claim_width claim_at past_claim count_at first_claim limited_of LG LH SX SS ratable basic_premium excess_charge nearest taxed_expenses_and_losses premiums_at halvings plan_for
+unfolding number bit field claim_width claim_at past_claim count_at first_claim limited_of LG LH SX SS ratable basic_premium excess_charge nearest taxed_expenses_and_losses premiums_at halvings plan_call
 sold_case = by_fields (
   λ b. (b.in_range, b.best_reaches, b.short_falls, b.made_is, b.distance_is, b.finishes, b.never_falls, b.least),
   λ b. b.over_by,
-  λ b. (b.none, b.only),
+  λ b. (b.passed_before, b.none, b.only),
   λ best short f. f,
   λ b. b.made_is,
 )

@@ -1,6 +1,6 @@
 -- What passed questions and the file's widths say of a group's numbers: what the steps ask for and what they keep.
 use Rattle.std.specs.Prelude.{ℕ, ◌+◌, ◌*◌, ◌^◌, ◌≤◌, ◌<◌, List, nat_abs, length}
-use Rattle.plan.specs.Sizes.{most_risks, most_risk_losses, most_mark, most_dollars, most_shared}
+use Rattle.plan.specs.Sizes.{least_conversion, most_conversion, least_tax, most_tax, most_risks, most_risk_losses, most_mark, most_dollars, most_shared}
 use Rattle.plan.specs.Header.{Header, standard_premium_field, expense_field}
 use Rattle.plan.specs.Losses.{Losses, SL, SA}
 use Rattle.plan.specs.Premium.{Terms}
@@ -10,11 +10,11 @@ pub record HeaderSound (h : Header) (n : ℕ) : Type 0 where
   -- 3
   pub premium : 1 ≤ h.standard_premium
   -- 4
-  pub conversion : 1000 ≤ h.conversion
-  pub conversion_most : h.conversion ≤ 2000
+  pub conversion : least_conversion ≤ h.conversion
+  pub conversion_most : h.conversion ≤ most_conversion
   -- 5
-  pub tax : 10000 ≤ h.tax
-  pub tax_most : h.tax ≤ 20000
+  pub tax : least_tax ≤ h.tax
+  pub tax_most : h.tax ≤ most_tax
   -- 6
   pub maximum : h.maximum_mark ≤ most_mark
   pub minimum : h.minimum_mark ≤ most_mark
@@ -36,7 +36,7 @@ pub record GroupBounds (h : Header) (rs : List Losses) : Type 0 where
 pub record TermsBounds (t : Terms) : Type 0 where
   pub some : 1 ≤ t.risks
   pub few : t.risks ≤ most_risks
-  pub conversion : t.conversion ≤ 2000
-  pub tax : t.tax ≤ 20000
+  pub conversion : t.conversion ≤ most_conversion
+  pub tax : t.tax ≤ most_tax
   pub shared : nat_abs t.basic + t.excess ≤ most_shared * t.risks
   pub maximum : t.maximum ≤ most_dollars

@@ -4,8 +4,8 @@
 use Rattle.std.specs.Prelude.{◌≡◌, ℕ, zero, suc, ◌+◌, ◌-◌, ◌*◌, ◌^◌, ◌≤◌, ◌<◌, max, true, false, cond, ◌&&◌, List, [], ◌∷◌, ℤ, pos, negsuc, ◌+ℤ◌, ◌*ℤ◌, leb, Float}
 use Rattle.std.specs.Float.{nan, inf, fin}
 use Rattle.std.specs.Float.Ieee.{up, down}
-use Rattle.plan.specs.Questions.{Question, ask, first_no}
-use Rattle.plan.specs.Calls.{Answer, refused, given, answer}
+use Rattle.plan.specs.Questions.{Question, ask}
+use Rattle.plan.specs.Call.{Call, Answer, answer_of}
 use Rattle.plan.specs.Doubles.{◌+ᵈ◌, ◌*ᵈ◌, ◌/ᵈ◌, double, whole, at_most}
 use Rattle.plan.specs.Matrix.{first_column, last_column, coefficient}
 
@@ -119,8 +119,11 @@ charged_of column r =
     record { unrounded = charge_double column r; in_thousandths = thousandths r (charge_double column r) }
 
 -- the charge of a column at an entry ratio, both in hundredths, any numbers
-unfoldable pub charge1965 : ℕ → ℕ → Answer Charged
-charge1965 column r = answer (first_no (charge_questions column r)) (charged_of column r)
+unfoldable pub charge_call : ℕ → ℕ → Call Charged
+charge_call column r = record { questions = charge_questions column r; result = charged_of column r }
+
+abbrev pub charge1965 : ℕ → ℕ → Answer Charged
+charge1965 column r = answer_of (charge_call column r)
 
 -- ---- what holds of a call that is not refused, of the double x and the thousandths n that it gives
 
@@ -129,8 +132,3 @@ pub record OnTable (column r : ℕ) (x : Float) (n : ℕ) : Type 0 where
   pub within : Within x exact_numerator (exact_denominator column r)
   -- 'At r 1.00 the thousandths equal ten times the column's hundredths.'
   pub tenfold : r ≡ 100 → n ≡ 10 * column
-
--- of a call that answers a
-abbrev pub OnTableAfter : Answer Charged → ℕ → ℕ → Float → ℕ → Type 0
-OnTableAfter (refused k) column r x n = Unit {0}
-OnTableAfter (given c) column r x n = OnTable column r x n

@@ -7,8 +7,9 @@ use Rattle.plan.specs.Header.{Header, header_of, risk_count}
 use Rattle.plan.specs.Losses.{Losses, losses_in}
 use Rattle.plan.specs.Premium.{billed_premiums}
 use Rattle.plan.specs.Demand3.{numbers_in}
-use Rattle.plan.specs.Questions.{Question, ask, first_no, rating_questions, rate_enough, question13}
-use Rattle.plan.specs.Calls.{Answer, refused, given, answer, buffer_after, Rated, rated_of, rate, premium_bytes}
+use Rattle.plan.specs.Questions.{Question, ask, rating_questions, rate_enough, question13}
+use Rattle.plan.specs.Call.{Call, Answer, given, answer_of, LentBuffer, buffer, signed_buffer}
+use Rattle.plan.specs.Calls.{Rated, rated_of, rate, premium_bytes}
 use Rattle.plan.specs.Discount.{Layer, discount, guaranteed_cost, rates_pass, widths_pass}
 
 -- ---- the questions
@@ -64,31 +65,45 @@ comparison_of ls h rs =
       difference = sum_z (λ z. z) differences;
     }
 
-unfoldable pub compare : List ℕ → List Layer → ℕ → ℕ → Answer Comparison
-compare s ls premiums_room differences_room =
-    answer (first_no (compare_questions s ls premiums_room differences_room)) (comparison_of ls (header_of s) (losses_in s))
+unfoldable pub compare_call : List ℕ → List Layer → ℕ → ℕ → Call Comparison
+compare_call s ls premiums_room differences_room = record {
+  questions = compare_questions s ls premiums_room differences_room;
+  result = comparison_of ls (header_of s) (losses_in s);
+}
 
--- the two buffers after the call, which held `old_premiums` and `old_differences`: 'A list of numbers .. fills the first entries of
--- a lent buffer of its own, risks in file order; later entries keep their contents.'
-abbrev pub compare_premiums : List ℕ → List Layer → List ℕ → List ℤ → List ℕ
-compare_premiums s ls old_premiums old_differences =
-    buffer_after (λ c. premium_bytes c.rated) (compare s ls (length old_premiums) (length old_differences)) old_premiums
+abbrev pub compare : List ℕ → List Layer → ℕ → ℕ → Answer Comparison
+compare s ls premiums_room differences_room = answer_of (compare_call s ls premiums_room differences_room)
 
-abbrev pub compare_differences : List ℕ → List Layer → List ℕ → List ℤ → List ℤ
-compare_differences s ls old_premiums old_differences =
-    buffer_after (λ c. c.differences) (compare s ls (length old_premiums) (length old_differences)) old_differences
+-- its two buffers: 'A list of numbers .. fills the first entries of a lent buffer of its own, risks in file order; later entries keep their
+-- contents.'
+abbrev pub compare_buffers : List ℕ → List ℤ → List ℕ → List ℤ → List (LentBuffer Comparison)
+compare_buffers old_premiums old_differences premiums differences =
+    buffer (λ c. premium_bytes c.rated) old_premiums premiums
+    ∷ signed_buffer (λ c. c.differences) old_differences differences
+    ∷ []
 
 -- ---- what holds of a call that is not refused
 
 -- the numbers that it gives: n, M, Q, the sum billed, the discount, guaranteed cost and the sum of the differences
 pub record NumbersGiven : Type 0 where
   pub risks : ℕ
-  pub basic : ℕ
+  pub basic : ℤ
   pub excess : ℕ
   pub billed : ℕ
   pub discount : ℕ
   pub guaranteed : ℕ
   pub difference : ℤ
+
+abbrev pub numbers_of : Comparison → NumbersGiven
+numbers_of c = record {
+  risks = c.rated.risks;
+  basic = c.rated.basic;
+  excess = c.rated.excess;
+  billed = c.rated.billed;
+  discount = c.discount;
+  guaranteed = c.guaranteed;
+  difference = c.difference;
+}
 
 -- numbers of which each is from −4,194,303 to below 2 ^ 31
 abbrev pub Sized : List ℤ → Type 0
@@ -115,13 +130,8 @@ pub record Beside (s : List ℕ) (f : NumbersGiven) (t : List ℕ) (u : List ℤ
       → rate s room
       ≡ given (record {
         risks = f.risks;
-        basic = pos f.basic;
+        basic = f.basic;
         excess = f.excess;
         billed = f.billed;
         premiums = numbers_in t (risk_count s);
       })
-
--- of a call that answers a
-abbrev pub BesideAfter : Answer Comparison → List ℕ → NumbersGiven → List ℕ → List ℤ → Type 0
-BesideAfter (refused k) s f t u = Unit {0}
-BesideAfter (given c) s f t u = Beside s f t u

@@ -16,7 +16,8 @@ pub mod Ratable
 pub mod Basic
 pub mod Premium
 pub mod Demand3
--- The calls
+-- What a call is, and document 01's calls
+pub mod Call
 pub mod Table
 pub mod Calls
 -- Questions a file must pass, and what a Yes to them says
@@ -31,3 +32,5 @@ pub mod Matrix
 pub mod Charge
 -- Document 02, job 6: plans sold on premiums
 pub mod SoldOnPremiums
+-- All calls in one table
+pub mod CallTable

@@ -4,7 +4,7 @@
 use Rattle.std.specs.Prelude.{Bool, true, false, ◌&&◌, ◌||◌, List, [], ◌∷◌, ◌++◌, ℕ, ◌*◌, leb, eqb, length}
 use Rattle.std.specs.Int.Signed.{non_neg}
 use Rattle.plan.specs.Arithmetic.{sum}
-use Rattle.plan.specs.Sizes.{most_mark, most_ratio}
+use Rattle.plan.specs.Sizes.{least_conversion, most_conversion, least_tax, most_tax, most_mark, most_ratio}
 use Rattle.plan.specs.Field.{bytes_for, fits, all_fit}
 use Rattle.plan.specs.Header.{Header, header_of, edition_of, risk_count, value_of, spare_field, loss_limit_field}
 use Rattle.plan.specs.Header.{standard_premium_field, expense_field, conversion_field, tax_field, mark_kind_field}
@@ -62,11 +62,11 @@ question3 h = ask 3 (leb 1 h.standard_premium)
 
 -- 'Is c from 1,000 to 2,000?'
 abbrev pub question4 : Header → Question
-question4 h = ask 4 (leb 1000 h.conversion && leb h.conversion 2000)
+question4 h = ask 4 (leb least_conversion h.conversion && leb h.conversion most_conversion)
 
 -- 'Is T from 10,000 to 20,000?'
 abbrev pub question5 : Header → Question
-question5 h = ask 5 (leb 10000 h.tax && leb h.tax 20000)
+question5 h = ask 5 (leb least_tax h.tax && leb h.tax most_tax)
 
 -- 'Are both marks at most 6,000?'
 abbrev pub question6 : Header → Question

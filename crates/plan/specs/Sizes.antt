@@ -1,8 +1,23 @@
--- Numbers by name. The first four are document 01's own; questions 6 and 14 and step 6 are stated with the first three. The
--- others are bounds that follow from the file's widths and from passed questions, as the laws show.
+-- Numbers by name. The first are document 01's own, by which questions 4, 5, 6 and 14 and step 6 are stated; document 02's stand with its
+-- jobs (16: `Discount.most_rate`; 20: `Matrix.first_column`, `last_column`; 21: `Charge.last_ratio`; 23: `SoldOnPremiums.most_basic`).
+-- The others follow from the file's widths and from passed questions, as the laws show.
 use Rattle.std.specs.Prelude.{ℕ}
 
 -- ---- document 01's numbers
+
+-- 'Is c from 1,000 to 2,000?', in thousandths
+abbrev pub least_conversion : ℕ
+least_conversion = 1000
+
+abbrev pub most_conversion : ℕ
+most_conversion = 2000
+
+-- 'Is T from 10,000 to 20,000?', in ten-thousandths
+abbrev pub least_tax : ℕ
+least_tax = 10000
+
+abbrev pub most_tax : ℕ
+most_tax = 20000
 
 -- 'Are both marks at most 6,000?', in thousandths
 abbrev pub most_mark : ℕ
@@ -19,7 +34,7 @@ premium_scale = 10000000
 abbrev pub half_dollar : ℕ
 half_dollar = 5000000
 
--- ---- bounds
+-- ---- what the widths of the fields bound: no number of a file is above these
 
 -- 'One size group: 1 to 255 risks'
 abbrev pub most_risks : ℕ
@@ -57,9 +72,12 @@ most_risk_bits = 1329
 abbrev pub most_file_bits : ℕ
 most_file_bits = 339023
 
--- job 4: 'The largest file becomes 42,378 bytes.'
+-- job 4: 'The largest file becomes 42,378 bytes.' None that passes 1 to 9 is longer (`FileSizes.file-le`), and one is so long
+-- (`LargestFile.attained`)
 abbrev pub largest_file : ℕ
 largest_file = 42378
+
+-- ---- what follows from them and from passed questions: bounds, of which no law says that a group attains them
 
 -- LG, LH and K: six times the largest mean loss
 abbrev pub most_dollars : ℕ

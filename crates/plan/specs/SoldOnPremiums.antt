@@ -10,7 +10,7 @@ use Rattle.plan.specs.Ratable.{clamp}
 use Rattle.plan.specs.Basic.{excess_charge}
 use Rattle.plan.specs.Demand3.{taxed_expenses_and_losses}
 use Rattle.plan.specs.Questions.{Question, ask, passed, first_no, loss_questions}
-use Rattle.plan.specs.Calls.{Answer, refused, given, answer}
+use Rattle.plan.specs.Call.{Call, Answer, answer_of}
 
 -- ---- the premiums of a basic of B whole dollars
 
@@ -124,8 +124,11 @@ abbrev pub plan_questions : List ℕ → ℕ → ℕ → List Question
 plan_questions s g h = bound_questions s g h ++ question23 s g h ∷ []
 
 -- the file, G, H and the number of trials
-unfoldable pub plan_for : List ℕ → ℕ → ℕ → ℕ → Answer Plan
-plan_for s g h trials = answer (first_no (plan_questions s g h)) (halvings (reaches s g h) trials)
+unfoldable pub plan_call : List ℕ → ℕ → ℕ → ℕ → Call Plan
+plan_call s g h trials = record { questions = plan_questions s g h; result = halvings (reaches s g h) trials }
+
+abbrev pub plan_for : List ℕ → ℕ → ℕ → ℕ → Answer Plan
+plan_for s g h trials = answer_of (plan_call s g h trials)
 
 -- ---- what holds of a call, of the trials made, the best and the short that it gives
 
@@ -158,12 +161,8 @@ pub record Sold (s : List ℕ) (g h trials made best : ℕ) (short : ℤ) : Type
   pub over_by : Finished best short → 0 < best
       → premiums_at s g h best ≤ taxed_expenses_and_losses s + 1000 * risk_count s * risk_count s * (header_of s).tax
 
--- of a call that is refused by k: where it is 23 no B in the range reaches, and where 1 to 10 and 22 pass it is 23
+-- of a call that is refused by k: it is 23 exactly where 1 to 10 and 22 pass, and then no B in the range reaches
 pub record Unsold (s : List ℕ) (g h k : ℕ) : Type 0 where
-  pub none : k ≡ 23 → (b : ℕ) → b ≤ most_basic → premiums_at s g h b < taxed_expenses_and_losses s
+  pub passed_before : k ≡ 23 → first_no (bound_questions s g h) ≡ passed
   pub only : first_no (bound_questions s g h) ≡ passed → k ≡ 23
-
--- of a call that answers a
-abbrev pub SoldAfter : Answer Plan → List ℕ → ℕ → ℕ → ℕ → ℕ → ℕ → ℤ → Type 0
-SoldAfter (refused k) s g h trials made best short = Unsold s g h k
-SoldAfter (given p) s g h trials made best short = Sold s g h trials made best short
+  pub none : k ≡ 23 → (b : ℕ) → b ≤ most_basic → premiums_at s g h b < taxed_expenses_and_losses s

@@ -10,7 +10,7 @@ use Rattle.plan.specs.Field.{slot, slots, total_width, bytes_of, Fitting}
 use Rattle.plan.specs.Losses.{Losses}
 use Rattle.plan.specs.Sizes.{most_risks}
 use Rattle.plan.specs.Premium.{bill_with}
-use Rattle.plan.specs.Calls.{filled}
+use Rattle.plan.specs.Call.{filled}
 use Rattle.laws.proofs.Fields.{Bytes}
 use Rattle.laws.proofs.Written.{width-slots}
 use Rattle.laws.proofs.Bills.{bill-lt}
@@ -19,14 +19,14 @@ use Rattle.bits.specs.Put.{Put}
 use Rattle.bits.specs.Runs.{Wrote}
 use Rattle.bits.proofs.Laws.{put-none, Putting, putting-starts, putting-as, putting-more, putting-ends, fields-put}
 use Rattle.group.specs.Values.{losses_of}
-use Rattle.group.specs.declared.Losses as group
+use Rattle.group.specs.declared.Losses as declared_losses
 use Rattle.steps.proofs.Laws.{within}
 use Rattle.steps.specs.Terms.{terms_is}
 use Rattle.steps.specs.declared.bill.Terms.{Terms}
 use Rattle.rating.specs.Bills.{bills_of}
 
 -- the bill that the code makes at an entry of its losses is that of the risk
-pub bill-at : (t : Terms) (xs : List group.Losses) (i : ℕ) (d : group.Losses) → i < length xs
+pub bill-at : (t : Terms) (xs : List declared_losses.Losses) (i : ℕ) (d : declared_losses.Losses) → i < length xs
     → bill_with (terms_is t) (get_or xs i d).limited ≡ get_or (bills_of t (losses_of xs)) i 0
 bill-at t [] i d h = absurd (omega arith)
 bill-at t (x ∷ xs) zero d h = refl
@@ -43,7 +43,7 @@ pub record Billing (bills old : List ℕ) (i p billed : ℕ) (present : List ℕ
   pub sums : billed + sum (drop i bills) ≡ sum bills
   pub puts : Putting old 0 (slots 32 bills) present p (slots 32 (drop i bills))
 
-module _ (t : Terms) (xs : List group.Losses) (old : List ℕ) (few : length xs ≤ most_risks) (enough : 4 * length xs ≤ length old) where
+module _ (t : Terms) (xs : List declared_losses.Losses) (old : List ℕ) (few : length xs ≤ most_risks) (enough : 4 * length xs ≤ length old) where
   abbrev bills : List ℕ
   bills = bills_of t (losses_of xs)
 

@@ -1,10 +1,11 @@
 // Rate: the balanced basic premium, the excess loss charge and the bill of each risk of a file's group.
-ghost use Rattle.std.specs.Prelude.{◌≡◌, ◌*◌, ◌≤◌, length};
+ghost use Rattle.std.specs.Prelude.{◌≡◌, ◌*◌, ◌≤◌, length, IfOk};
 ghost use Rattle.plan.specs.Field.{slots, bytes_of};
-ghost use Rattle.plan.specs.Calls.{filled};
+ghost use Rattle.plan.specs.Demand3.{Demand3};
+ghost use Rattle.plan.specs.Call.{filled};
 ghost use Rattle.group.specs.Values.{losses_of};
 ghost use Rattle.rating.specs.Bills.{bills_of};
-ghost use Rattle.rating.specs.Rates.{figures_by, RateSays, Demanded};
+ghost use Rattle.rating.specs.Rates.{figures_by, RateSays};
 
 use bits::BitPlace;
 use gates::open_rating;
@@ -58,7 +59,7 @@ pub fn bill_group(terms: Terms, losses: RiskLosses<'_>, out: &mut [u8]) -> Group
 // Rates a file of whatever bytes into a buffer of whatever length.
 pub fn rate(file: &[u8], premiums: &mut [u8]) -> Result<GroupFigures, Refusal>
     ensures says { RateSays file.now premiums.old result premiums.new }
-    ensures demand3 { Demanded result file.now premiums.new }
+    ensures demand3 { IfOk result (λ g. Demand3 file.now g.basic g.excess g.billed premiums.new) }
 {
     let Opened {
         verdict: terms,

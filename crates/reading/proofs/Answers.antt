@@ -1,5 +1,5 @@
 -- What Read answers, from the verdict of its questions: a refusal leaves all as it was, a group fills the buffers. Assumes nothing.
-use mathlib.Core.Path.{◌≡◌, sym, ap, ap₂, ◌∙◌}
+use mathlib.Core.Path.{◌≡◌, refl, sym, ap, ap₂, ◌∙◌}
 use mathlib.Core.Bool.{Bool, true, false, ◌&&◌}
 use mathlib.Core.List.{List, [], ◌∷◌, ◌++◌, map}
 use Prim.Native.Nat.{ℕ, ◌≤◌, ◌<◌}
@@ -14,8 +14,9 @@ use Rattle.plan.specs.Claim.{dollars}
 use Rattle.plan.specs.Risk.{counts_from, risks_from, all_claims}
 use Rattle.plan.specs.File.{Group, counts_of, group_of}
 use Rattle.plan.specs.Questions.{Verdict, passed, failed, first_no, or_else, file_questions, question13, read_enough, read_questions}
-use Rattle.plan.specs.Calls.{Answer, given, giving, filled, buffer_after, read}
-use Rattle.laws.proofs.Questions.{after-gate, answered}
+use Rattle.plan.specs.Call.{Call, filled}
+use Rattle.plan.specs.Calls.{read_call}
+use Rattle.laws.proofs.Questions.{after-gate}
 use Rattle.laws.proofs.Risks.{length-counts}
 use Rattle.laws.proofs.Tests.{and_yes, and-first-no, and-second-no}
 use Rattle.laws.proofs.FileSizes.{risks-le}
@@ -26,12 +27,16 @@ use Rattle.group.specs.declared.Refusal.{Refusal}
 use Rattle.group.specs.declared.Refusal.TheVariants.{Room}
 use Rattle.groupfile.specs.Opening.{OutlineIs}
 use Rattle.groupfile.specs.declared.opening.Outline.{Outline}
-use Rattle.reading.specs.Reading.{bit, values_given, Buffers, buffers, ReadSays, RisksRoom}
+use Rattle.group.proofs.Laws.{keeps, sets}
+use Rattle.reading.specs.Reading.{bit, values_given, read_is, Buffers, buffers, ReadSays, RisksRoom}
 use Rattle.reading.specs.declared.ReadValues.{ReadValues}
 
 module _ (s : List ℕ) (old : Buffers) where
   abbrev pub enough : Bool
   enough = read_enough s (length old.counts) (length old.claims) (length old.joined)
+
+  abbrev called : Call Group
+  called = read_call s (length old.counts) (length old.claims) (length old.joined)
 
   -- the first No of Read's questions
   abbrev pub asked : Verdict
@@ -45,37 +50,24 @@ module _ (s : List ℕ) (old : Buffers) where
 
   -- a refusal leaves all as it was
   pub refused_says : (r : Refusal) → asked ≡ failed (number_of r) → ReadSays s old (Err r) old
-  unfolding read
-  refused_says r e =
-      let a = answered (group_of s) e in
-      record {
-        answer = sym (ap (giving values_given) a);
-        counts_after = sym (ap (λ (x : Answer Group). buffer_after (λ g. g.counts) x old.counts) a);
-        claims_after = sym (ap (λ (x : Answer Group). buffer_after (λ g. g.claims) x old.claims) a);
-        joined_after = sym (ap (λ (x : Answer Group). buffer_after (λ g. g.joined) x old.joined) a);
-      }
+  unfolding read_call
+  refused_says r e = keeps called values_given read_is r e (refl, (refl, (refl, tt)))
 
   -- a group fills the buffers
-  pub given-says : {v : ReadValues} {new : Buffers} → asked ≡ passed
+  pub given-says : (v : ReadValues) {new : Buffers} → asked ≡ passed
       → v.edition ≡ edition_of s → v.risks ≡ risk_count s → header_is v.header ≡ header_of s
       → new.counts ≡ filled (counts_of s) old.counts → new.claims ≡ filled (group_of s).claims old.claims
       → new.joined ≡ filled (group_of s).joined old.joined
       → ReadSays s old (Ok v) new
-  unfolding read
-  given-says e edition n header c d j =
-      let a = answered (group_of s) e in
-      record {
-        answer =
-            (λ i. given (record {
-              edition = edition i;
-              risks = (n ∙ sym (length-counts s header_bits (risk_count s))) i;
-              header = header i;
-            }))
-            ∙ sym (ap (giving values_given) a);
-        counts_after = c ∙ sym (ap (λ (x : Answer Group). buffer_after (λ g. g.counts) x old.counts) a);
-        claims_after = d ∙ sym (ap (λ (x : Answer Group). buffer_after (λ g. g.claims) x old.claims) a);
-        joined_after = j ∙ sym (ap (λ (x : Answer Group). buffer_after (λ g. g.joined) x old.joined) a);
-      }
+  unfolding read_call
+  given-says v e edition n header c d j =
+      let values : read_is v ≡ values_given (group_of s) =
+      λ i. record {
+        edition = edition i;
+        risks = (n ∙ sym (length-counts s header_bits (risk_count s))) i;
+        header = header i;
+      } in
+      sets called values_given read_is v e values (c, (d, (j, tt)))
 
 -- past question 9, with the file's outline at hand: each test of room in turn
 module _ (s : List ℕ) (old : Buffers) {o : Outline} {u : Unit} (x : OutlineIs (file_questions s) s o) (passes : o.verdict ≡ Ok u) where
@@ -132,7 +124,7 @@ module _ (s : List ℕ) (old : Buffers) {o : Outline} {u : Unit} (x : OutlineIs 
         read-says c d j =
             let fits : sum (counts_of s) ≤ length old.joined = omega (arith, bits, x.run.claims) in
             let count : o.risks ≡ length (counts_of s) = x.risks ∙ sym (length-counts s header_bits (risk_count s)) in
-            given-says s old (verdict s old gate (and_yes claims-fit (le-leb _ _ fits)))
+            given-says s old _ (verdict s old gate (and_yes claims-fit (le-leb _ _ fits)))
             x.run.edition x.risks x.header
             (ap₂ (λ (l : List ℕ) (k : ℕ). l ++ drop k old.counts) (c ∙ (λ i. counts_from (same i) (x.run.first i) (all i))) count)
             (d ∙ (λ i. filled (map dollars (all_claims (risks_from (same i) (x.run.first i) (all i)))) old.claims))

@@ -16,7 +16,7 @@ use Rattle.plan.specs.Arithmetic.{sum}
 use Rattle.plan.specs.Sizes.{most_file_bits}
 use Rattle.plan.specs.Claim.{Claim, dollars, claim_at, claims_from, past_claims}
 use Rattle.plan.specs.Risk.{count_width, count_at, first_claim, claims_at, counts_from, risks_from, past_risks, all_claims}
-use Rattle.plan.specs.Calls.{filled}
+use Rattle.plan.specs.Call.{filled}
 use Rattle.laws.proofs.Sums.{sum-append}
 use Rattle.laws.proofs.Claims.{length-claims, part_in}
 use Rattle.laws.proofs.Risks.{length-claims-at, length-counts, counts-claims, counts-more, past-risks-more, past-risks-le, sum-prefix}

@@ -1,5 +1,5 @@
 -- The answer of Read as document 01's, and document 02's, job 4. And the room that reading the risks asks for.
-use Rattle.std.specs.Prelude.{◌≡◌, List, ℕ, ◌≤◌, length, Result}
+use Rattle.std.specs.Prelude.{List, ℕ, ◌≤◌, length, Result}
 use Rattle.plan.specs.Arithmetic.{sum}
 use Rattle.plan.specs.Sizes.{most_risks}
 use Rattle.plan.specs.Header as plan
@@ -7,9 +7,9 @@ use Rattle.plan.specs.Claim.{Claim}
 use Rattle.plan.specs.Claim as claims
 use Rattle.plan.specs.Risk.{counts_from}
 use Rattle.plan.specs.File.{Group}
-use Rattle.plan.specs.Calls.{Answer, giving, read_into, read_counts, read_claims, read_joined}
+pub use Rattle.plan.specs.Calls.{Buffers, read_with, read_buffers}
 use Rattle.group.specs.Values.{header_is}
-use Rattle.group.specs.Refusals.{answer_is}
+use Rattle.group.specs.Says.{Says}
 use Rattle.group.specs.declared.Refusal.{Refusal}
 use Rattle.reading.specs.declared.ReadValues.{ReadValues}
 
@@ -31,25 +31,13 @@ values_given g = record { edition = g.edition; risks = length g.counts; header =
 abbrev pub read_is : ReadValues → ValuesGiven
 read_is v = record { edition = v.edition; risks = v.risks; header = header_is v.header }
 
--- the three buffers that are lent to Read
-pub record Buffers : Type 0 where
-  pub counts : List ℕ
-  pub claims : List ℕ
-  pub joined : List ℕ
-
+-- the three buffers that are lent to Read, as one value
 abbrev pub buffers : List ℕ → List ℕ → List ℕ → Buffers
 buffers c d j = record { counts = c; claims = d; joined = j }
 
--- document 02's answer with these buffers
-abbrev pub read_with : List ℕ → Buffers → Answer Group
-read_with s b = read_into s b.counts b.claims b.joined
-
 -- a call of Read on the file s, whose buffers held `old` and hold `new` after it
-pub record ReadSays (s : List ℕ) (old : Buffers) (r : Result ReadValues Refusal) (new : Buffers) : Type 0 where
-  pub answer : answer_is read_is r ≡ giving values_given (read_with s old)
-  pub counts_after : new.counts ≡ read_counts s old.counts old.claims old.joined
-  pub claims_after : new.claims ≡ read_claims s old.counts old.claims old.joined
-  pub joined_after : new.joined ≡ read_joined s old.counts old.claims old.joined
+abbrev pub ReadSays : List ℕ → Buffers → Result ReadValues Refusal → Buffers → Type 0
+ReadSays s old r new = Says (read_with s old) values_given read_is r (read_buffers old new)
 
 -- buffers with room for the claims and bits of the first n risks from the place `at` on, which is no later than the header's end
 pub record RisksRoom (s : List ℕ) (at n claims_room joined_room : ℕ) : Type 0 where

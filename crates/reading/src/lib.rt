@@ -3,7 +3,7 @@
 #![tactic(auto)]
 
 ghost use Rattle.std.specs.Prelude.{◌≡◌, map, length};
-ghost use Rattle.plan.specs.Calls.{filled};
+ghost use Rattle.plan.specs.Call.{filled};
 ghost use Rattle.plan.specs.Claim.{dollars, claims_from, past_claims};
 ghost use Rattle.plan.specs.Risk.{counts_from, risks_from, all_claims};
 ghost use Rattle.reading.specs.Reading.{bit, buffers, RisksRoom, ReadSays};

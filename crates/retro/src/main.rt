@@ -4,6 +4,8 @@
 // each is told on standard error, but where nobody reads the output any more.
 #![tactic(auto)]
 
+ghost use Rattle.std.specs.Prelude.{◌≡◌, ◌+◌, length};
+ghost use Rattle.plan.specs.Sizes.{largest_file};
 ghost use Rattle.retro.specs.Input.{Within, ReadsAll};
 
 use group::{LARGEST_FILE, MOST_RISKS};
@@ -90,6 +92,13 @@ fn unwritten(rt: &impl Eprint, error: io::Error) -> ExitCode {
     ExitCode::FAILURE
 }
 
+// Room for the largest file and for one byte more, by which a longer one is refused.
+fn room_for_input() -> [u8; LARGEST_FILE + 1]
+    ensures { length result ≡ largest_file + 1 }
+{
+    [0; LARGEST_FILE + 1]
+}
+
 // Whether the program was started with an argument.
 fn has_argument(rt: &impl Env) -> bool {
     !matches!(rt.arg(1, &mut []), Err(FillError::NotPresent))
@@ -100,7 +109,7 @@ fn main(rt: HostRuntime) -> ExitCode {
         let _ = eprintln!(rt; "usage: retro < FILE");
         return ExitCode::SUCCESS;
     }
-    let mut input = [0u8; LARGEST_FILE + 1];
+    let mut input = room_for_input();
     let mut premiums = [0u8; 4 * MOST_RISKS];
     let n = match read_input(&mut rt.stdin(), &mut input) {
         Ok(n) => n,

@@ -1,3 +1,2 @@
--- What the exported calls' answers come to, law by law, and that none of these calls answers 11.
+-- From what the libraries say of a call to what its export says.
 pub mod Exports
-pub mod Eleven

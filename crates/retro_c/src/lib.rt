@@ -3,17 +3,20 @@
 // with documents 01 and 02, refusals included.
 #![tactic(auto)]
 
-ghost use Rattle.std.specs.Prelude.{◌≡◌, length};
-ghost use Rattle.plan.specs.Calls.{rate, Demand3After};
-ghost use Rattle.reading.specs.Reading.{buffers};
+ghost use Rattle.std.specs.Prelude.{[], pos, length};
+ghost use Rattle.plan.specs.Call.{IfGiven, IfRefused};
+ghost use Rattle.plan.specs.Calls.{rate, rate_buffers, read_buffers, write_buffers};
+ghost use Rattle.plan.specs.CallTable as call_table;
+ghost use Rattle.plan.specs.Demand3.{Demand3};
+ghost use Rattle.plan.specs.Comparison as comparison;
+ghost use Rattle.plan.specs.Comparison.{Beside};
+ghost use Rattle.plan.specs.Charge.{charge1965, OnTable};
+ghost use Rattle.plan.specs.SoldOnPremiums.{plan_for, Sold, Unsold};
+ghost use Rattle.rating.specs.Rates.{figures_of};
+ghost use Rattle.reading.specs.Reading.{buffers, values_given};
 ghost use Rattle.writing.specs.Writer.{given_group};
-ghost use Rattle.plan.specs.Comparison as plan;
-ghost use Rattle.plan.specs.Comparison.{BesideAfter};
-ghost use Rattle.plan.specs.Charge.{charge1965, OnTableAfter};
-ghost use Rattle.plan.specs.SoldOnPremiums.{plan_for, SoldAfter};
 ghost use Rattle.guaranteed.specs.Schedules.{layers_of};
-ghost use Rattle.retro_c.specs.Exported.{numbers, RateExported, TableExported, ReadExported, WriteExported};
-ghost use Rattle.retro_c.specs.Exported.{lent, CompareExported, ChargeExported, plan_lent, PlanExported};
+ghost use Rattle.retro_c.specs.Exported.{Exported, values, no_values, lent};
 
 use group::Header;
 use guaranteed::compare;
@@ -40,12 +43,12 @@ pub extern "C" fn retro_rate(
     excess: &mut u64,
     billed: &mut u64,
 ) -> u32
-    ensures says { RateExported file.now premiums.old result
-        (numbers risks.old basic.old excess.old billed.old)
-        (numbers risks.new basic.new excess.new billed.new)
-        premiums.new }
-    ensures demand3 { Demand3After (rate file.now (length premiums.old)) file.now
-        basic.new excess.new billed.new premiums.new }
+    ensures says { Exported (call_table.Rate file.now (length premiums.old)) figures_of result
+        (record { risks = risks.old; basic = pos basic.old; excess = excess.old; billed = billed.old })
+        (record { risks = risks.new; basic = pos basic.new; excess = excess.new; billed = billed.new })
+        (rate_buffers premiums.old premiums.new) }
+    ensures demand3 { IfGiven (rate file.now (length premiums.old))
+        (Demand3 file.now basic.new excess.new billed.new premiums.new) }
 {
     match rating::rates::rate(file, premiums) {
         Err(refusal) => refusal.into(),
@@ -67,8 +70,10 @@ pub extern "C" fn retro_table(
     charge: &mut u32,
     savings: &mut u32,
 ) -> u32
-    ensures { TableExported file.now entry_ratio result
-        charge.old charge.new savings.old savings.new }
+    ensures { Exported (call_table.Table file.now entry_ratio) (λ t. t) result
+        (record { charge = charge.old; savings = savings.old })
+        (record { charge = charge.new; savings = savings.new })
+        [] }
 {
     match tables::table(file, entry_ratio) {
         Err(refusal) => refusal.into(),
@@ -88,8 +93,9 @@ pub extern "C" fn retro_read(
     claims: &mut [u32],
     joined: &mut [u8],
 ) -> RetroGroup
-    ensures { ReadExported file.now (buffers counts.old claims.old joined.old) result
-        (buffers counts.new claims.new joined.new) }
+    ensures { Exported (call_table.Read file.now (length counts.old) (length claims.old) (length joined.old))
+        values_given result.refused no_values (values result)
+        (read_buffers (buffers counts.old claims.old joined.old) (buffers counts.new claims.new joined.new)) }
 {
     match reading::read(file, counts, claims, joined) {
         Err(refusal) => RetroGroup {
@@ -116,8 +122,9 @@ pub extern "C" fn retro_write(
     file: &mut [u8],
     size: &mut usize,
 ) -> u32
-    ensures { WriteExported (given_group edition header counts.now claims.now joined.now)
-        file.old result size.old size.new file.new }
+    ensures { Exported (call_table.Write (given_group edition header counts.now claims.now joined.now) (length file.old))
+        length result size.old size.new
+        (write_buffers file.old file.new) }
 {
     match writing::writer::write(edition, header, counts, claims, joined, file) {
         Err(refusal) => refusal.into(),
@@ -144,20 +151,20 @@ pub extern "C" fn retro_guaranteed(
     guaranteed: &mut u32,
     difference: &mut i64,
 ) -> u32
-    ensures says { CompareExported
-        (plan.compare file.now (layers_of schedule.layers) (length premiums.old) (length differences.old))
-        premiums.old differences.old result
+    ensures says { Exported
+        (call_table.Guaranteed file.now (layers_of schedule.layers) (length premiums.old) (length differences.old))
+        comparison.numbers_of result
         (lent risks.old basic.old excess.old billed.old
         discount.old guaranteed.old difference.old)
         (lent risks.new basic.new excess.new billed.new
         discount.new guaranteed.new difference.new)
-        premiums.new differences.new }
-    ensures beside { BesideAfter
-        (plan.compare file.now (layers_of schedule.layers) (length premiums.old) (length differences.old))
-        file.now
+        (comparison.compare_buffers premiums.old differences.old premiums.new differences.new) }
+    ensures beside { IfGiven
+        (comparison.compare file.now (layers_of schedule.layers) (length premiums.old) (length differences.old))
+        (Beside file.now
         (lent risks.new basic.new excess.new billed.new
         discount.new guaranteed.new difference.new)
-        premiums.new differences.new }
+        premiums.new differences.new) }
 {
     match compare(file, schedule, premiums, differences) {
         Err(refusal) => refusal.into(),
@@ -184,14 +191,16 @@ pub extern "C" fn retro_charge(
     charge: &mut f64,
     thousandths: &mut u32,
 ) -> u32
-    ensures says { ChargeExported column entry_ratio result
-        charge.old charge.new thousandths.old thousandths.new }
-    ensures table { OnTableAfter (charge1965 column entry_ratio) column entry_ratio charge.new thousandths.new }
+    ensures says { Exported (call_table.Charge1965 column entry_ratio) (λ c. c) result
+        (record { unrounded = charge.old; in_thousandths = thousandths.old })
+        (record { unrounded = charge.new; in_thousandths = thousandths.new })
+        [] }
+    ensures table { IfGiven (charge1965 column entry_ratio) (OnTable column entry_ratio charge.new thousandths.new) }
 {
-    match table1965::charges::charge(column, entry_ratio) {
+    match table1965::charges::charge_of(column, entry_ratio) {
         Err(refusal) => refusal.into(),
         Ok(t) => {
-            *charge = t.charge;
+            *charge = t.unrounded;
             *thousandths = t.thousandths;
             0
         }
@@ -210,11 +219,13 @@ pub extern "C" fn retro_plan(
     best: &mut u32,
     short_of: &mut i32,
 ) -> u32
-    ensures says { PlanExported (plan_for file.now maximum minimum trials) result
-        (plan_lent made.old best.old short_of.old)
-        (plan_lent made.new best.new short_of.new) }
-    ensures sold { SoldAfter (plan_for file.now maximum minimum trials) file.now maximum minimum trials
-        made.new best.new short_of.new }
+    ensures says { Exported (call_table.Plan file.now maximum minimum trials) (λ p. p) result
+        (record { made = made.old; best = best.old; short = short_of.old })
+        (record { made = made.new; best = best.new; short = short_of.new })
+        [] }
+    ensures sold { IfGiven (plan_for file.now maximum minimum trials)
+        (Sold file.now maximum minimum trials made.new best.new short_of.new) }
+    ensures unsold { IfRefused (plan_for file.now maximum minimum trials) (Unsold file.now maximum minimum) }
 {
     match sold::plans::plan(file, maximum, minimum, trials) {
         Err(refusal) => refusal.into(),

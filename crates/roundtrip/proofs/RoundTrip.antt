@@ -7,15 +7,16 @@ use mathlib.Core.List.{List, [], ◌∷◌}
 use Prim.Native.Nat.{ℕ, ◌≤◌}
 use lib.ListN.{length, take}
 use Rattle.plan.specs.Arithmetic.{sum}
-use Rattle.plan.specs.File.{Group, group_of}
-use Rattle.plan.specs.Questions.{first_no, file_questions, question13, read_enough, read_questions}
-use Rattle.plan.specs.Calls.{Answer, given, giving, filled, buffer_after, read, write}
-use Rattle.laws.proofs.Answers.{Gave, giving-given}
+use Rattle.plan.specs.File.{Group}
+use Rattle.plan.specs.Questions.{file_questions, question13, read_enough}
+use Rattle.plan.specs.Call.{given, giving, filled}
+use Rattle.plan.specs.Calls.{read, write, read_call}
+use Rattle.laws.proofs.Calls.{given-by, buffer-filled, Gave, giving-given}
 use Rattle.laws.proofs.Fields.{Bytes}
-use Rattle.laws.proofs.Questions.{given-passed, passed-both, file-sound}
+use Rattle.laws.proofs.Questions.{passed-both, file-sound}
 use Rattle.laws.proofs.Decoded.{Matching, own-matching}
 use Rattle.laws.proofs.Filled.{first-filled}
-use Rattle.laws.proofs.RoundTrip as plan-trips
+use Rattle.laws.proofs.RoundTrip as round_trip
 use Rattle.std.proofs.Common.{Result, Ok, Err}
 use Rattle.group.specs.Refusals.{answer_is}
 use Rattle.group.specs.Values.{header_is}
@@ -42,14 +43,13 @@ module _ (s : List ℕ) (old new : Buffers) (v : ReadValues) (bytes : Bytes s) (
 
   first-counts : take v.risks new.counts ≡ group.counts
   first-counts =
-      ap (take v.risks) (was_read.counts_after ∙ ap (λ (a : Answer Group). buffer_after (λ g. g.counts) a old.counts) gave.is)
+      ap (take v.risks) (was_read.buffers_after.0 ∙ buffer-filled (λ (g : Group). g.counts) old.counts gave.is)
       ∙ first-filled group.counts old.counts (ap (λ (x : ValuesGiven). x.risks) (sym gave.part))
 
   matching : Matching group
-  unfolding read
+  unfolding read_call
   matching =
-      let p = given-passed (first_no (read_questions s (length old.counts) (length old.claims) (length old.joined))) (group_of s) group
-      gave.is in
+      let p = given-by (read_call s (length old.counts) (length old.claims) (length old.joined)) gave.is in
       subst Matching p.1 (own-matching s)
 
   -- how many claims the counts add to
@@ -61,12 +61,12 @@ module _ (s : List ℕ) (old new : Buffers) (v : ReadValues) (bytes : Bytes s) (
 
   first-claims : take many new.claims ≡ group.claims
   first-claims =
-      ap (take many) (was_read.claims_after ∙ ap (λ (a : Answer Group). buffer_after (λ g. g.claims) a old.claims) gave.is)
+      ap (take many) (was_read.buffers_after.1.0 ∙ buffer-filled (λ (g : Group). g.claims) old.claims gave.is)
       ∙ first-filled group.claims old.claims all-claims
 
   first-joined : take many new.joined ≡ group.joined
   first-joined =
-      ap (take many) (was_read.joined_after ∙ ap (λ (a : Answer Group). buffer_after (λ g. g.joined) a old.joined) gave.is)
+      ap (take many) (was_read.buffers_after.1.1.0 ∙ buffer-filled (λ (g : Group). g.joined) old.joined gave.is)
       ∙ first-filled group.joined old.joined (all-claims ∙ sym matching.bits)
 
   -- what a caller hands on to Write
@@ -87,10 +87,10 @@ module _ (s : List ℕ) (old new : Buffers) (v : ReadValues) (bytes : Bytes s) (
       } in
       let written : write handed (length old_file) ≡ given s =
       ap (λ (g : Group). write g (length old_file)) same
-      ∙ plan-trips.read-write s (length old.counts) (length old.claims) (length old.joined) (length old_file) group bytes gave.is
+      ∙ round_trip.read-write s (length old.counts) (length old.claims) (length old.joined) (length old_file) group bytes gave.is
       enough in (
         length-given r (says.answer ∙ ap (giving length) written),
-        says.buffer ∙ ap (λ (a : Answer (List ℕ)). buffer_after (λ b. b) a old_file) written,
+        says.buffers_after.0 ∙ buffer-filled (λ (b : List ℕ). b) old_file written,
       )
 
 -- ---- Read of what Write made
@@ -107,7 +107,7 @@ module _ (edition : ℕ) (h : Header) (counts claims joined old new : List ℕ) 
   -- the file is the first n bytes of the buffer
   file-is : take n new ≡ made.value
   file-is =
-      ap (take n) (was-written.buffer ∙ ap (λ (a : Answer (List ℕ)). buffer_after (λ b. b) a old) made.is)
+      ap (take n) (was-written.buffers_after.0 ∙ buffer-filled (λ (b : List ℕ). b) old made.is)
       ∙ first-filled made.value old (sym made.part)
 
   -- 'Read of the result gives those values back'
@@ -120,23 +120,23 @@ module _ (edition : ℕ) (h : Header) (counts claims joined old new : List ℕ) 
   write-then-read before after r enough-counts enough-claims enough-joined says =
       let back : read_with (take n new) before ≡ given values =
       ap (λ (b : List ℕ). read_with b before) file-is
-      ∙ plan-trips.write_read values (length old) (length before.counts) (length before.claims) (length before.joined) made.value
+      ∙ round_trip.write_read values (length old) (length before.counts) (length before.claims) (length before.joined) made.value
       made.is enough-counts enough-claims enough-joined in (
         says.answer ∙ ap (giving values_given) back,
-        says.counts_after ∙ ap (λ (a : Answer Group). buffer_after (λ g. g.counts) a before.counts) back,
-        says.claims_after ∙ ap (λ (a : Answer Group). buffer_after (λ g. g.claims) a before.claims) back,
-        says.joined_after ∙ ap (λ (a : Answer Group). buffer_after (λ g. g.joined) a before.joined) back,
+        says.buffers_after.0 ∙ buffer-filled (λ (g : Group). g.counts) before.counts back,
+        says.buffers_after.1.0 ∙ buffer-filled (λ (g : Group). g.claims) before.claims back,
+        says.buffers_after.1.1.0 ∙ buffer-filled (λ (g : Group). g.joined) before.joined back,
       )
 
 -- ---- one file for one group and edition
 
 -- two files that Read accepts with the same values, the edition among them, are the same bytes
 pub one-file : (s t : List ℕ) (a b c d e f : ℕ) (g : Group) → Bytes s → Bytes t → read s a b c ≡ given g → read t d e f ≡ given g → s ≡ t
-unfolding read
+unfolding read_call
 one-file s t a b c d e f g hs ht x y =
-    let p = given-passed (first_no (read_questions s a b c)) (group_of s) g x in
-    let q = given-passed (first_no (read_questions t d e f)) (group_of t) g y in
-    plan-trips.one-file s t hs ht
+    let p = given-by (read_call s a b c) x in
+    let q = given-by (read_call t d e f) y in
+    round_trip.one-file s t hs ht
     (file-sound s (passed-both (file_questions s) (question13 (read_enough s a b c) ∷ []) p.0).0)
     (file-sound t (passed-both (file_questions t) (question13 (read_enough t d e f) ∷ []) q.0).0)
     (p.1 ∙ sym q.1)

@@ -1,6 +1,6 @@
 -- A plan sold on premiums as the code gives it, as document 02's, and what holds of a call.
 use Rattle.std.specs.Prelude.{Bool, List, ℕ, ℤ, pos, negsuc, Option, Some, None, Result, MatchResult}
-use Rattle.plan.specs.SoldOnPremiums as plan
+use Rattle.plan.specs.SoldOnPremiums as sold_on_premiums
 use Rattle.plan.specs.SoldOnPremiums.{Sold, Unsold}
 use Rattle.group.specs.Refusals.{number_of}
 use Rattle.group.specs.Values.{losses_of}
@@ -18,7 +18,7 @@ abbrev pub short_is : Option ℕ → ℤ
 short_is (Some b) = pos b
 short_is None = negsuc 0
 
-abbrev pub plan_is : PlanFound → plan.Plan
+abbrev pub plan_is : PlanFound → sold_on_premiums.Plan
 plan_is p = record { made = p.made; best = p.best; short = short_is p.short_of }
 
 -- what holds of a call on the file s with G, H and a number of trials

@@ -2,11 +2,11 @@
 use Rattle.std.specs.Prelude.{Bool, List, ℕ, leb}
 use Rattle.plan.specs.Arithmetic.{sum_of}
 use Rattle.plan.specs.Losses.{Losses}
-use Rattle.plan.specs.SoldOnPremiums as plan
+use Rattle.plan.specs.SoldOnPremiums as sold_on_premiums
 use Rattle.plan.specs.SoldOnPremiums.{held_premium}
 use Rattle.sold.specs.declared.totals.PlanTerms.{PlanTerms}
 
-abbrev pub plan_terms_is : PlanTerms → plan.PlanTerms
+abbrev pub plan_terms_is : PlanTerms → sold_on_premiums.PlanTerms
 plan_terms_is t = record {
   risks = t.risks;
   conversion = t.conversion;

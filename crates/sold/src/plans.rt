@@ -2,10 +2,11 @@
 // least the taxed expenses and losses of a file's group, found by trials.
 ghost use Rattle.std.specs.Prelude.{◌≡◌, [], ◌∷◌};
 ghost use Rattle.plan.specs.Questions.{ask, first_no};
-ghost use Rattle.plan.specs.Calls.{answer};
-ghost use Rattle.plan.specs.SoldOnPremiums as plan;
+ghost use Rattle.plan.specs.Call.{answer};
+ghost use Rattle.plan.specs.SoldOnPremiums as sold_on_premiums;
 ghost use Rattle.plan.specs.SoldOnPremiums.{most_basic, halvings};
 ghost use Rattle.group.specs.Refusals.{answer_is};
+ghost use Rattle.group.specs.Says.{Says};
 ghost use Rattle.sold.specs.PremiumPlans.{reached_by, plan_is, SoldBy};
 
 use crate::owed::owed_of;
@@ -63,7 +64,7 @@ fn search(target: &Target, trials: u32) -> Result<PlanFound, Refusal>
 
 // A plan for a file of whatever bytes, with a maximum and a minimum premium of whatever dollars, by whatever number of trials.
 pub fn plan(file: &[u8], maximum: u32, minimum: u32, trials: u32) -> Result<PlanFound, Refusal>
-    ensures says { answer_is plan_is result ≡ plan.plan_for file.now maximum minimum trials }
+    ensures says { Says (sold_on_premiums.plan_for file.now maximum minimum trials) (λ p. p) plan_is result [] }
     ensures sold { SoldBy result file.now maximum minimum trials }
 {
     let Opened {

@@ -2,7 +2,7 @@
 // maximum, their total, and whether it reaches what they are to pay. A premium fits 64 bits, and totals leave them, so they have 128.
 ghost use Rattle.std.specs.Prelude.{◌*◌, ◌≤◌};
 ghost use Rattle.std.specs.List.{All};
-ghost use Rattle.plan.specs.Sizes.{most_risks, most_risk_losses, most_group_losses};
+ghost use Rattle.plan.specs.Sizes.{most_conversion, most_tax, most_risks, most_risk_losses, most_group_losses};
 ghost use Rattle.plan.specs.SoldOnPremiums.{most_basic};
 
 use group::Losses;
@@ -31,9 +31,9 @@ pub struct PlanTerms {
     pub maximum: u32,
     pub minimum: u32,
     pub ghost few: { risks ≤ most_risks },
-    pub ghost conversion_most: { conversion ≤ 2000 },
-    pub ghost tax_most: { tax ≤ 20000 },
-    pub ghost excess_most: { excess ≤ 2000 * most_group_losses },
+    pub ghost conversion_most: { conversion ≤ most_conversion },
+    pub ghost tax_most: { tax ≤ most_tax },
+    pub ghost excess_most: { excess ≤ most_conversion * most_group_losses },
 }
 
 // What a basic premium is looked for by: the terms, the losses of each risk, and what the premiums are to pay.

@@ -1,9 +1,9 @@
 -- The code's terms as document 01's: what the bills of a group share.
 use Rattle.std.specs.Prelude.{pos}
-use Rattle.plan.specs.Premium as plan
+use Rattle.plan.specs.Premium as premium
 use Rattle.steps.specs.declared.bill.Terms.{Terms}
 
-abbrev pub terms_is : Terms → plan.Terms
+abbrev pub terms_is : Terms → premium.Terms
 terms_is t = record {
   risks = t.risks;
   conversion = t.conversion;

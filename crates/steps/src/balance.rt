@@ -1,7 +1,7 @@
 // Steps 2 to 5 of a group, and question 12: the terms that its bills share, or the question that failed.
 ghost use Rattle.std.specs.Prelude.{◌≡◌};
 ghost use Rattle.plan.specs.Questions.{first_no, balance_questions};
-ghost use Rattle.plan.specs.Calls.{answer};
+ghost use Rattle.plan.specs.Call.{answer};
 ghost use Rattle.plan.specs.Premium.{terms_of};
 ghost use Rattle.group.specs.Refusals.{answer_is};
 ghost use Rattle.group.specs.Values.{header_is, losses_is, GroupIs};

@@ -1,6 +1,6 @@
 // Step 6: the bill of one risk, by the terms that the bills of its group share.
 ghost use Rattle.std.specs.Prelude.{◌+◌, ◌*◌, ◌≤◌};
-ghost use Rattle.plan.specs.Sizes.{most_risks, most_dollars, most_shared};
+ghost use Rattle.plan.specs.Sizes.{most_conversion, most_tax, most_risks, most_dollars, most_shared};
 
 use crate::ratable::ratable_of;
 
@@ -19,8 +19,8 @@ pub struct Terms {
     pub maximum: u32,
     pub ghost some: { 1 ≤ risks },
     pub ghost few: { risks ≤ most_risks },
-    pub ghost conversion_most: { conversion ≤ 2000 },
-    pub ghost tax_most: { tax ≤ 20000 },
+    pub ghost conversion_most: { conversion ≤ most_conversion },
+    pub ghost tax_most: { tax ≤ most_tax },
     pub ghost shared: { basic + excess ≤ most_shared * risks },
     pub ghost maximum_most: { maximum ≤ most_dollars },
 }

@@ -1,17 +1,18 @@
 -- From a test that the code makes to document 02's answer: questions 20 and 21 in their order, or the charge. Assumes nothing.
-use Rattle.std.proofs.Common.{◌≡◌, refl, ℕ, ◌<◌, ◌≤◌, Bool, true, false, ◌&&◌, leb, sym, ap, ◌∙◌, subst, le-leb, Ok, Err}
+use Rattle.std.proofs.Common.{◌≡◌, [], refl, ℕ, ◌<◌, ◌≤◌, Bool, true, false, ◌&&◌, leb, sym, ap, ◌∙◌, subst, le-leb, Ok, Err}
 use borrow.Author.Tests.{lt-leb, leb-true}
 use lib.Ieee.{Float}
-use Rattle.plan.specs.Calls.{given}
+use Rattle.plan.specs.Call.{given}
 use Rattle.plan.specs.Matrix.{first_column, last_column}
-use Rattle.plan.specs.Charge.{charge_double, thousandths, charge1965, last_ratio, Within, exact_numerator, exact_denominator}
+use Rattle.plan.specs.Charge.{charge_double, thousandths, charge1965, last_ratio, OnTable, Within, exact_numerator, exact_denominator, charge_call}
 use Rattle.laws.proofs.Tests.{both}
 use Rattle.laws.proofs.Thousandths.{at_one}
 use Rattle.table1965.proofs.Within.{within}
-use Rattle.table1965.specs.Charges.{ChargeIs, charged_is, OnTableGiven}
-use Rattle.table1965.specs.declared.charges.TableCharge.{TableCharge}
-use Rattle.group.specs.Refusals.{answer_is}
-use Rattle.group.specs.declared.Refusal.TheVariants as no
+use Rattle.table1965.specs.Charges.{ChargeIs, charged_is}
+use Rattle.table1965.specs.declared.charges.Charge1965.{Charge1965}
+use Rattle.group.specs.Says.{Says}
+use Rattle.group.proofs.Laws.{alone}
+use Rattle.group.specs.declared.Refusal.TheVariants as variants
 
 module _ (column r : ℕ) where
   -- that the column is carried, and whether it is
@@ -27,9 +28,9 @@ module _ (column r : ℕ) where
       let b = both (leb first_column column) (leb column last_column) e in
       absurd (h (leb-true first_column column b.0, leb-true column last_column b.1))
 
-  pub outside : (Carried → ⊥) → answer_is charged_is (Err no.Column) ≡ charge1965 column r
-  unfolding charge1965
-  outside h = simp (not-carried h carried refl)
+  pub outside : (Carried → ⊥) → Says (charge1965 column r) (λ c. c) charged_is (Err variants.Column) []
+  unfolding charge_call
+  outside h = alone (simp (not-carried h carried refl))
 
   module _ (in_table : Carried) where
     first : leb first_column column ≡ true
@@ -38,18 +39,18 @@ module _ (column r : ℕ) where
     last : leb column last_column ≡ true
     last = le-leb column last_column in_table.1
 
-    pub above-ratio : last_ratio < r → answer_is charged_is (Err no.TableRatio) ≡ charge1965 column r
-    unfolding charge1965
-    above-ratio h = simp (first, last, lt-leb r last_ratio h)
+    pub above-ratio : last_ratio < r → Says (charge1965 column r) (λ c. c) charged_is (Err variants.TableRatio) []
+    unfolding charge_call
+    above-ratio h = alone (simp (first, last, lt-leb r last_ratio h))
 
-    module _ (b : r ≤ last_ratio) (t : TableCharge) (is : ChargeIs column r t) where
-      pub given_is : answer_is charged_is (Ok t) ≡ charge1965 column r
-      unfolding charge1965
+    module _ (b : r ≤ last_ratio) (t : Charge1965) (is : ChargeIs column r t) where
+      pub given_is : Says (charge1965 column r) (λ c. c) charged_is (Ok t) []
+      unfolding charge_call
       given_is =
-          simp (first, last, le-leb r last_ratio b)
-          (λ i. given (record { unrounded = is.charge_is i; in_thousandths = is.thousandths_are i }))
+          alone (simp (first, last, le-leb r last_ratio b)
+          (λ i. given (record { unrounded = is.charge_is i; in_thousandths = is.thousandths_are i })))
 
-      pub on-table : OnTableGiven (Ok t) column r
+      pub on-table : OnTable column r t.unrounded t.thousandths
       on-table = record {
         within = subst (λ (x : Float). Within x exact_numerator (exact_denominator column r)) (sym is.charge_is) (within column r in_table.0 in_table.1 b);
         tenfold =

@@ -9,8 +9,10 @@ use Rattle.plan.specs.Losses.{Losses, losses_in, SA}
 use Rattle.plan.specs.Questions.{ask, Verdict, passed, first_no, or_else, loss_questions, question14}
 use Rattle.plan.specs.Table.{charge_sum, savings_sum, charge, savings}
 use Rattle.plan.specs.Bounds.{GroupBounds}
-use Rattle.plan.specs.Calls.{answer, Tabled, table}
-use Rattle.laws.proofs.Questions.{after-gate, answered, loss-sound}
+use Rattle.plan.specs.Call.{answer}
+use Rattle.plan.specs.Calls.{Tabled, table, table_call}
+use Rattle.laws.proofs.Calls.{answered}
+use Rattle.laws.proofs.Questions.{after-gate, loss-sound}
 use Rattle.laws.proofs.FileSizes.{group-bounds}
 use Rattle.laws.proofs.Curve.{savings-charge}
 use Rattle.laws.proofs.TableSizes.{losses-le, charge-le, savings-le, charge-lt, savings-lt}
@@ -25,7 +27,7 @@ module _ (s : List ℕ) (r : ℕ) where
   -- the gate's No, else that of 14
   pub tabled : {v : Verdict} {b : Bool} → first_no (loss_questions s) ≡ v → leb r most_ratio ≡ b
       → answer (or_else v (first_no (ask 14 b ∷ []))) ratios ≡ table s r
-  unfolding table
+  unfolding table_call
   tabled {v} e f =
       sym (answered ratios
       (after-gate (loss_questions s) (question14 r ∷ []) e ∙ ap (λ (b : Bool). or_else v (first_no (ask 14 b ∷ []))) f))

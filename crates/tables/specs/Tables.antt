@@ -1,7 +1,7 @@
 -- What the functions of Table ask for and give, and its answer as document 01's.
 use Rattle.std.specs.Prelude.{◌≡◌, ℕ, ◌+◌, ◌*◌, ◌^◌, ◌≤◌, ◌<◌, Result, Ok, Err}
 use Rattle.plan.specs.Sizes.{most_ratio}
-use Rattle.plan.specs.Calls as plan
+use Rattle.plan.specs.Calls as calls
 use Rattle.group.specs.declared.Refusal.{Refusal}
 use Rattle.tables.specs.declared.Ratios.{Ratios}
 
@@ -13,7 +13,7 @@ pub record ThousandthsBounds (x half divisor : ℕ) : Type 0 where
   pub most : 1000 * x ≤ 10 * most_ratio * divisor
 
 -- charge and savings
-abbrev pub ratios_are : Ratios → plan.Tabled
+abbrev pub ratios_are : Ratios → calls.Tabled
 ratios_are t = record { charge = t.charge; savings = t.savings }
 
 -- formula (9) of document 001, S = X + r − 1, of the thousandths that a call of Table gives at r hundredths

@@ -1,10 +1,10 @@
 // Table: charge and savings of a file's group at an entry ratio.
 #![tactic(auto)]
 
-ghost use Rattle.std.specs.Prelude.{◌≡◌, ◌*◌};
+ghost use Rattle.std.specs.Prelude.{◌≡◌, [], ◌*◌};
 ghost use Rattle.plan.specs.Arithmetic.{nearest};
-ghost use Rattle.plan.specs.Calls as plan;
-ghost use Rattle.group.specs.Refusals.{answer_is};
+ghost use Rattle.plan.specs.Calls as calls;
+ghost use Rattle.group.specs.Says.{Says};
 ghost use Rattle.tables.specs.Tables.{ThousandthsBounds, ratios_are, OnCurve};
 
 use gates::open_losses;
@@ -32,7 +32,7 @@ fn thousandths_of(x: u64, half: u64, divisor: u64) -> u32
 
 // Table of a file of whatever bytes at an entry ratio of whatever hundredths.
 pub fn table(file: &[u8], r: u32) -> Result<Ratios, Refusal>
-    ensures says { answer_is ratios_are result ≡ plan.table file.now r }
+    ensures says { Says (calls.table file.now r) (λ t. t) ratios_are result [] }
     ensures curve { OnCurve result r }
 {
     let Opened {

@@ -1,6 +1,6 @@
 -- Write's questions as the code asks them, one after another: each answer makes the verdict, or leaves it
--- to the questions after it. And what a verdict makes of the answer and of the buffer.
-use mathlib.Core.Path.{◌≡◌, sym, ap, ap₂, ◌∙◌}
+-- to the questions after it.
+use mathlib.Core.Path.{◌≡◌, refl, sym, ap, ap₂, ◌∙◌}
 use mathlib.Core.Bool.{Bool, true, false}
 use mathlib.Core.List.{List, [], ◌∷◌, ◌++◌}
 use Prim.Native.Nat.{ℕ, ◌+◌, ◌*◌, ◌≤◌, ◌<◌}
@@ -16,17 +16,18 @@ use Rattle.plan.specs.File.{Group, claims_given, file_of}
 use Rattle.plan.specs.Questions.{Question, ask, Verdict, passed, failed, first_no, or_else}
 use Rattle.plan.specs.Questions.{known_edition, header_questions, question13, question15, question19}
 use Rattle.plan.specs.Questions.{write_enough, write_questions}
-use Rattle.plan.specs.Calls.{Answer, given, giving, filled, buffer_after, write}
-use Rattle.laws.proofs.Questions.{goes_on, stops, after-gate, answered}
-use Rattle.laws.proofs.Writable.{Writable, fifteen-sound}
+use Rattle.plan.specs.Call.{filled}
+use Rattle.plan.specs.Calls.{write_call}
+use Rattle.laws.proofs.Questions.{goes_on, stops, after-gate}
+use Rattle.laws.proofs.Writable.{Writable, fifteen-sound, file-length}
 use Rattle.writing.specs.Fitting.{OpenSays}
 use Rattle.putting.specs.Putting.{Ready}
 use Rattle.std.proofs.Common.{Ok, Err}
 use Rattle.writing.specs.Writer.{WriteSays}
 use Rattle.group.specs.Refusals.{number_of}
+use Rattle.group.proofs.Laws.{keeps, sets}
 use Rattle.group.specs.declared.Refusal.{Refusal}
-use Rattle.group.specs.declared.Refusal.TheVariants as no
-use Rattle.writing.proofs.Lengths.{file-length}
+use Rattle.group.specs.declared.Refusal.TheVariants as variants
 
 -- what the values are that question 15 passes
 pub fifteen : (g : Group) → ask 15 true ≡ question15 g → Writable g
@@ -48,31 +49,19 @@ module _ (g : Group) (old : List ℕ) where
   abbrev verdict : Verdict
   verdict = first_no (write_questions g (length old))
 
-  -- ---- the answer and the buffer of a verdict
-
   says-refused : (r : Refusal) → verdict ≡ failed (number_of r) → WriteSays g old (Err r) old
-  unfolding write
-  says-refused r e =
-      let a = sym (answered file e) in
-      record {
-        answer = ap (giving length) a;
-        buffer = ap (λ (x : Answer (List ℕ)). buffer_after (λ b. b) x old) a;
-      }
+  unfolding write_call
+  says-refused r e = keeps (write_call g (length old)) length (λ n. n) r e (refl, tt)
 
   says-length : {n : ℕ} {new : List ℕ} → verdict ≡ passed → n ≡ length file → new ≡ filled file old
       → WriteSays g old (Ok n) new
-  unfolding write
-  says-length e l b =
-      let a = sym (answered file e) in
-      record {
-        answer = ap given l ∙ ap (giving length) a;
-        buffer = b ∙ ap (λ (x : Answer (List ℕ)). buffer_after (λ b. b) x old) a;
-      }
+  unfolding write_call
+  says-length {n} e l b = sets (write_call g (length old)) length (λ n. n) n e l (b, tt)
 
   -- ---- question 2
 
-  pub refused-2 : false ≡ known_edition g.edition → WriteSays g old (Err no.Edition) old
-  refused-2 e = says-refused no.Edition (stops 2 (header3_7 ++ question15 g ∷ open19 ∷ enough13 ∷ []) (sym e))
+  pub refused-2 : false ≡ known_edition g.edition → WriteSays g old (Err variants.Edition) old
+  refused-2 e = says-refused variants.Edition (stops 2 (header3_7 ++ question15 g ∷ open19 ∷ enough13 ∷ []) (sym e))
 
   module _ (yes2 : true ≡ known_edition g.edition) where
     -- ---- questions 3 to 7
@@ -92,8 +81,8 @@ module _ (g : Group) (old : List ℕ) where
       past-7 : {b : Bool} → ask 15 b ≡ question15 g → verdict ≡ first_no (ask 15 b ∷ open19 ∷ enough13 ∷ [])
       past-7 e = past-2 yes7 ∙ ap (λ (q : Question). first_no (q ∷ open19 ∷ enough13 ∷ [])) (sym e)
 
-      pub refused-15 : ask 15 false ≡ question15 g → WriteSays g old (Err no.Misfit) old
-      refused-15 e = says-refused no.Misfit (past-7 e)
+      pub refused-15 : ask 15 false ≡ question15 g → WriteSays g old (Err variants.Misfit) old
+      refused-15 e = says-refused variants.Misfit (past-7 e)
 
       module _ (yes15 : ask 15 true ≡ question15 g) where
         -- ---- question 19, which is answered whatever the dollars
@@ -103,8 +92,8 @@ module _ (g : Group) (old : List ℕ) where
             past-7 yes15
             ∙ ap (λ (b : Bool). first_no (ask 19 b ∷ enough13 ∷ [])) (sym (x g.claims (fifteen g yes15).bits))
 
-        pub refused-19 : OpenSays g.counts g.joined false → WriteSays g old (Err no.FirstJoined) old
-        refused-19 x = says-refused no.FirstJoined (past-15 x)
+        pub refused-19 : OpenSays g.counts g.joined false → WriteSays g old (Err variants.FirstJoined) old
+        refused-19 x = says-refused variants.FirstJoined (past-15 x)
 
         -- ---- question 13, with the length computed
 
@@ -120,8 +109,8 @@ module _ (g : Group) (old : List ℕ) where
               past-15 yes19
               ∙ ap (λ (b : Bool). first_no (ask 13 b ∷ [])) (ap (λ (n : ℕ). leb n (length old)) (sym right) ∙ e)
 
-          pub refused-13 : length old < size → WriteSays g old (Err no.Room) old
-          refused-13 h = says-refused no.Room (past-19 (lt-leb size (length old) h))
+          pub refused-13 : length old < size → WriteSays g old (Err variants.Room) old
+          refused-13 h = says-refused variants.Room (past-19 (lt-leb size (length old) h))
 
           -- ---- all passed
 

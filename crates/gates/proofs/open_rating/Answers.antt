@@ -6,8 +6,9 @@ use Rattle.plan.specs.Header.{header_of}
 use Rattle.plan.specs.Losses.{losses_in}
 use Rattle.plan.specs.Premium.{terms_of}
 use Rattle.plan.specs.Questions.{passed, first_no, or_else, loss_questions, balance_questions, rating_questions}
-use Rattle.plan.specs.Calls.{answer}
-use Rattle.laws.proofs.Questions.{after-gate, answered, loss-sound}
+use Rattle.plan.specs.Call.{answer}
+use Rattle.laws.proofs.Calls.{answered}
+use Rattle.laws.proofs.Questions.{after-gate, loss-sound}
 use Rattle.laws.proofs.FileSizes.{group-bounds}
 use Rattle.group.specs.Refusals.{verdict_is, answer_is}
 use Rattle.group.specs.Values.{header_is, losses_is, GroupIs}

@@ -6,7 +6,7 @@ use Rattle.plan.specs.Header.{Header, header_of}
 use Rattle.plan.specs.Losses.{losses_in}
 use Rattle.plan.specs.Premium.{terms_of}
 use Rattle.plan.specs.Questions.{Verdict, passed, failed, first_no, or_else, rating_questions, question13}
-use Rattle.plan.specs.Calls.{answer}
+use Rattle.plan.specs.Call.{answer}
 use Rattle.plan.specs.Discount.{Layer, discount}
 use Rattle.plan.specs.Comparison.{differences_of, schedule_questions}
 use Rattle.laws.proofs.Questions.{rating-sound}
@@ -14,7 +14,7 @@ use Rattle.laws.proofs.FileSizes.{group-bounds}
 use Rattle.laws.proofs.Discounts.{discount_most}
 use Rattle.group.specs.Refusals.{number_of, verdict_is, answer_is}
 use Rattle.group.specs.Values.{losses_of}
-use Rattle.group.specs.declared.Losses as group
+use Rattle.group.specs.declared.Losses as declared_losses
 use Rattle.group.specs.declared.Refusal.{Refusal}
 use Rattle.steps.specs.Terms.{terms_is}
 use Rattle.steps.specs.declared.bill.Terms.{Terms}
@@ -115,7 +115,7 @@ module _ (c : In_ok-schedule_verdict) where
       (gives c.open_rating-terms.ensures c.in_ok-terms.was) c.open_rating-terms.ensures all-passed
 
   -- and both buffers have room for the losses that are lent
-  enough : {xs : List group.Losses} → xs ≡ c.open_rating-terms.result.losses.of_risks.items
+  enough : {xs : List declared_losses.Losses} → xs ≡ c.open_rating-terms.result.losses.of_risks.items
       → (4 * length xs ≤ length c.args.premiums.now) × (length xs ≤ length c.args.differences.now)
   enough lent =
       let s = c.args.file.now in

@@ -1,6 +1,6 @@
 -- There is room for the next risk's claims in either buffer, and a turn stores one risk more.
 use Rattle.std.proofs.Common.{arith, ◌≡◌, ap, ◌∙◌, ℕ, ◌+◌, ◌≤◌, length}
-use Rattle.plan.specs.Calls.{filled}
+use Rattle.plan.specs.Call.{filled}
 use Rattle.plan.specs.Risk.{counts_from}
 use Rattle.laws.proofs.Risks.{count-le, counts-le, length-counts}
 use Rattle.reading.proofs.Storing.{filled_all, place-most, claims-within, joined-within, storing-more}

@@ -6,10 +6,10 @@ use Rattle.plan.specs.Sizes.{most_ratio}
 use Rattle.plan.specs.Questions.{loss_questions}
 use Rattle.plan.specs.Losses.{losses_in}
 use Rattle.plan.specs.Table.{charge_sum, savings_sum}
-use Rattle.plan.specs.Calls.{given}
+use Rattle.plan.specs.Call.{given}
 use Rattle.group.specs.Refusals.{verdict_is}
 use Rattle.group.specs.Values.{losses_is}
-use Rattle.group.proofs.Laws.{risks}
+use Rattle.group.proofs.Laws.{risks, alone}
 use Rattle.steps.proofs.Laws.{of-slice}
 use Rattle.groupfile.specs.Opening.{OpenedIs}
 use Rattle.groupfile.specs.declared.opening.Opened.{Opened}
@@ -24,13 +24,13 @@ pub returns-in_err-verdict-clause-says : goal.returns-in_err-verdict-clause-says
 returns-in_err-verdict-clause-says c =
     let a = c.args in
     let p = err_from_is_err_and c.from_residual.result c.from_residual.ensures.1 in
-    rw (p.1, p.2) (tabled a.file.now a.r (sym c.open_losses-verdict.ensures.verdict ∙ ap verdict_is c.in_err-verdict.was) refl)
+    rw (p.1, p.2) (alone (tabled a.file.now a.r (sym c.open_losses-verdict.ensures.verdict ∙ ap verdict_is c.in_err-verdict.was) refl))
 
 pub returns-then-r-gt-MOST_RATIO-clause-says : goal.returns-then-r-gt-MOST_RATIO-clause-says
 returns-then-r-gt-MOST_RATIO-clause-says c =
     let a = c.args in
-    tabled a.file.now a.r (sym c.open_losses-verdict.ensures.verdict ∙ ap verdict_is c.in_ok-verdict.was)
-    (lt-leb _ _ c.if-r-gt-MOST_RATIO.true)
+    alone (tabled a.file.now a.r (sym c.open_losses-verdict.ensures.verdict ∙ ap verdict_is c.in_ok-verdict.was)
+    (lt-leb _ _ c.if-r-gt-MOST_RATIO.true))
 
 -- ---- past question 14
 
@@ -110,8 +110,8 @@ returns-clause-says c =
     let h = c.if-r-gt-MOST_RATIO.false in
     let v = c.thousandths_of.ensures ∙ charge_is (known p h) (charge-is p h) in
     let w = c.thousandths_of-2.ensures ∙ savings_is (known p h) (savings-is p h) in
-    (λ i. given (record { charge = v i; savings = w i }))
-    ∙ tabled c.args.file.now c.args.r (known p h).passes (le-leb _ _ (known p h).ratio)
+    alone ((λ i. given (record { charge = v i; savings = w i }))
+    ∙ tabled c.args.file.now c.args.r (known p h).passes (le-leb _ _ (known p h).ratio))
 
 pub returns-clause-curve : goal.returns-clause-curve
 returns-clause-curve c =

@@ -5,10 +5,10 @@ use Rattle.plan.specs.Losses.{Losses, losses_in}
 use Rattle.plan.specs.Ratable.{clamp, ratable}
 use Rattle.plan.specs.Premium.{terms_of}
 use Rattle.plan.specs.Questions.{Verdict, first_no, rating_questions}
-use Rattle.plan.specs.Calls.{answer}
+use Rattle.plan.specs.Call.{answer}
 use Rattle.group.specs.Refusals.{answer_is}
 use Rattle.group.specs.Values.{losses_of, LossesAre}
-use Rattle.group.specs.declared.Losses as group
+use Rattle.group.specs.declared.Losses as declared_losses
 use Rattle.group.specs.declared.GroupLosses.{GroupLosses}
 use Rattle.steps.specs.Terms.{terms_is}
 use Rattle.steps.specs.declared.bill.Terms.{Terms}
@@ -17,7 +17,7 @@ use Rattle.gates.proofs.Given.{gives, refuses, passes, terms-are}
 use Rattle.rating.proofs.details.details_of.Goals as goal
 use Rattle.rating.proofs.details.details_of.Goals.{in-Ok, in-Err}
 
-limited : (f : ℕ → ℕ) (xs : List group.Losses) → map (λ (x : group.Losses). f x.limited) xs ≡ map (λ (r : Losses). f r.limited) (losses_of xs)
+limited : (f : ℕ → ℕ) (xs : List declared_losses.Losses) → map (λ (x : declared_losses.Losses). f x.limited) xs ≡ map (λ (r : Losses). f r.limited) (losses_of xs)
 limited f [] = refl
 limited f (x ∷ xs) = ap (λ (l : List ℕ). f x.limited ∷ l) (limited f xs)
 
@@ -25,7 +25,7 @@ limited f (x ∷ xs) = ap (λ (l : List ℕ). f x.limited ∷ l) (limited f xs)
 ratables-are : (s : List ℕ) (t : Terms) {g : GroupLosses}
     (gave : answer_is terms_is (Ok t) ≡ answer (first_no (rating_questions s)) (terms_of (header_of s) (losses_in s)))
     → LossesAre (losses_in s) g
-    → map (λ (x : group.Losses). clamp t.minimum t.maximum x.limited) g.of_risks.items ≡ map (ratable (header_of s) (losses_in s)) (losses_in s)
+    → map (λ (x : declared_losses.Losses). clamp t.minimum t.maximum x.limited) g.of_risks.items ≡ map (ratable (header_of s) (losses_in s)) (losses_in s)
 unfolding ratable
 ratables-are s t {g} gave x =
     limited (clamp t.minimum t.maximum) g.of_risks.items
@@ -44,7 +44,7 @@ returns c =
                 let gave = gives x w.in-Ok.is in
                 ap (λ y. y.items) w.ratables-is
                 ∙ w.ratables_of-ratables.ensures
-                ∙ ap (map (λ (y : group.Losses). clamp t.minimum t.maximum y.limited)) w.lent.ensures
+                ∙ ap (map (λ (y : declared_losses.Losses). clamp t.minimum t.maximum y.limited)) w.lent.ensures
                 ∙ ratables-are s t gave x.losses
                 ∙ sym (ap (λ (v : Verdict). ratables_after v s) (passes s t gave))
             | in-Err w ↦

@@ -4,6 +4,7 @@ use borrow.Author.Tests.{lt-leb}
 use Rattle.std.proofs.lemmas.Result.{err_from_is_err_and}
 use Rattle.plan.specs.SoldOnPremiums.{plan_for}
 use Rattle.group.specs.Refusals.{answer_is, verdict_is}
+use Rattle.group.proofs.Laws.{alone}
 use Rattle.group.specs.Values.{losses_of}
 use Rattle.group.specs.declared.Refusal.TheVariants.{PremiumOrder}
 use Rattle.sold.specs.PremiumPlans.{plan_is}
@@ -22,7 +23,7 @@ returns-then-minimum-maximum c =
     let a = c.args in
     let x = at-hand (goal.at.returns-then-minimum-maximum c).In_ok-verdict in
     let e = planned a.file.now a.maximum a.minimum a.trials x.passes (lt-leb a.minimum a.maximum c.if-minimum-maximum.true) in
-    record { says = e; sold = sold-by (Err PremiumOrder) _ _ _ _ e }
+    record { says = alone e; sold = sold-by (Err PremiumOrder) _ _ _ _ e }
 
 pub excess_of-requires : goal.excess_of-requires
 excess_of-requires c = rw c.from.ensures (excess-bounds (at-hand (goal.at.excess_of-requires c).In_ok-verdict))
@@ -59,7 +60,7 @@ returns c =
       each = ap losses_of c.deref.ensures.0;
       owed_is = c.owed_of.ensures;
     }) c.args.trials c.search.result c.if-minimum-maximum.false c.search.ensures in
-    record { says = e; sold = sold-by c.search.result _ _ _ _ e }
+    record { says = alone e; sold = sold-by c.search.result _ _ _ _ e }
 
 pub returns-in_err-verdict : goal.returns-in_err-verdict
 returns-in_err-verdict c =
@@ -68,4 +69,4 @@ returns-in_err-verdict c =
     let e : answer_is plan_is c.from_residual.result ≡ plan_for a.file.now a.maximum a.minimum a.trials =
     rw (p.1, p.2)
     (planned a.file.now a.maximum a.minimum a.trials (sym c.open_losses-verdict.ensures.verdict ∙ ap verdict_is c.in_err-verdict.was) refl) in
-    record { says = e; sold = sold-by c.from_residual.result _ _ _ _ e }
+    record { says = alone e; sold = sold-by c.from_residual.result _ _ _ _ e }

@@ -1,16 +1,17 @@
 -- Question 12 by M's sign, and the terms where it passes, since the numbers that the code has are the group's.
 use Rattle.std.proofs.Common.{◌≡◌, sym, ap, ◌∙◌, subst, pos, true, false, List, []}
 use Rattle.std.specs.Int.Signed.{non_neg}
-use Rattle.plan.specs.Header as plan
+use Rattle.plan.specs.Header as header
 use Rattle.plan.specs.Losses.{Losses}
 use Rattle.plan.specs.Ratable.{SX, SS}
 use Rattle.plan.specs.Basic.{basic_of, basic_premium}
 use Rattle.plan.specs.Premium.{Terms, terms_of}
 use Rattle.plan.specs.Questions.{balance_questions, first_no}
-use Rattle.plan.specs.Calls.{Answer, refused, given, answer}
+use Rattle.plan.specs.Call.{Answer, refused, given, answer}
 use Rattle.plan.specs.Bounds.{TermsBounds}
 use Rattle.laws.proofs.GroupSizes.{terms-bounds}
-use Rattle.laws.proofs.Questions.{goes_on, stops, answered}
+use Rattle.laws.proofs.Calls.{answered}
+use Rattle.laws.proofs.Questions.{goes_on, stops}
 use Rattle.group.specs.Values.{header_is, losses_is}
 use Rattle.steps.proofs.Sums.{of-slice}
 use Rattle.steps.proofs.Group.{above_is, below_is, basic-bounds, basic_are, terms-are}
@@ -19,7 +20,7 @@ use Rattle.steps.proofs.balance.balance.Goals.{In-Some, After-from-3, After-basi
 
 -- ---- what 12 comes to
 
-module _ (h : plan.Header) (rs : List Losses) where
+module _ (h : header.Header) (rs : List Losses) where
   abbrev Answers : Answer Terms → Type 0
   Answers a = a ≡ answer (first_no (balance_questions h rs)) (terms_of h rs)
 

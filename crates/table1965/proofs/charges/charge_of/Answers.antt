@@ -2,7 +2,7 @@
 use Rattle.std.proofs.Common.{ℕ, subst, rules}
 use Rattle.table1965.specs.Charges.{ChargeIs}
 use Rattle.table1965.proofs.Answers.{Carried, outside, above-ratio, given_is, on-table}
-use Rattle.table1965.proofs.charges.charge.Goals as goal
+use Rattle.table1965.proofs.charges.charge_of.Goals as goal
 
 pub returns-in_default-clause-says : goal.returns-in_default-clause-says
 returns-in_default-clause-says c = outside c.args.column c.args.entry_ratio c.in_default.ensures
