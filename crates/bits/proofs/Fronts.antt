@@ -29,13 +29,6 @@ module _ {s : List ℕ} {at n w : ℕ} (a : Ahead s at n w) (m : ℕ) (h : m ≤
       ∙ ap (λ (x : ℕ). x / 2 ^ (n - m)) (a.are ∙ parts)
       ∙ high (field s at m) (n - m) (field_lt s (at + m) (n - m))
 
-  -- a field of k bits that ends where these m end
-  pub front-part : (k : ℕ) → k ≤ m → w / 2 ^ (64 - m) % 2 ^ k ≡ field s (at + (m - k)) k
-  front-part k l =
-      let all : m ≡ m - k + k = omega arith in
-      ap (λ (x : ℕ). x % 2 ^ k) (front-is ∙ ap (field s at) all ∙ field-split s at (m - k) k)
-      ∙ low (field s at (m - k)) k (field_lt s (at + (m - k)) k)
-
   -- so fewer bits are ahead too
   pub ahead-fewer : Ahead s at m w
   ahead-fewer = record { few = omega (arith, a.few); are = front-is }

@@ -9,5 +9,6 @@ mod Puts
 mod Runs
 mod Regrouped
 mod WholeBytes
+mod Holding
 -- what crates above cite
 pub mod Laws

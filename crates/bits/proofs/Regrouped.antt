@@ -10,14 +10,14 @@ use native.Mathlib.Omega.{arith}
 use lib.Pow.{pow_pos, shr_lt, split, high, low}
 use Rattle.plan.specs.Field.{field, Slot, slot, total_width, Laid, Fitting}
 use Rattle.laws.proofs.Fields.{by_cases, field_lt, field-split, field-bits}
-use Rattle.bits.proofs.Shifts.{joined-lt}
+use Rattle.bits.proofs.Shifts.{join-lt}
 use Rattle.bits.specs.Runs.{Space}
 use Rattle.bits.proofs.Runs.{Putting}
 
 -- ---- two fields as one
 
 -- where the one lies, so do the two
-pub laid-two : (s : List ℕ) (at v a w b : ℕ) (fs : List Slot) → b < 2 ^ w → Laid s at (slot (v + w) (a * 2 ^ w + b) ∷ fs)
+laid-two : (s : List ℕ) (at v a w b : ℕ) (fs : List Slot) → b < 2 ^ w → Laid s at (slot (v + w) (a * 2 ^ w + b) ∷ fs)
     → Laid s at (slot v a ∷ slot w b ∷ fs)
 laid-two s at v a w b fs h l =
     let x : ℕ = field s at v in
@@ -65,7 +65,7 @@ module _ {s t : List ℕ} {at q : ℕ} {fs : List Slot} where
   putting-both {v} {a} {w} {b} {rest} g =
       let fit = g.space.fitting in
       regrouped (slot (v + w) (a * 2 ^ w + b) ∷ rest) g (omega arith)
-      (joined-lt v w (v + w) fit.0 fit.1.0 (omega arith), fit.1.1)
+      (join-lt v w (v + w) fit.0 fit.1.0 (omega arith), fit.1.1)
       (λ u l. laid-two u q v a w b rest fit.1.0 l)
 
   -- the first as two

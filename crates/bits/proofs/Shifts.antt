@@ -18,8 +18,8 @@ pub masked : (x n : ℕ) → n < 64 → bit_and x ((1 * 2 ^ n) % 2 ^ 64 - 1) ≡
 masked x n h = ap (λ (m : ℕ). bit_and x (m - 1)) (one_shl n h) ∙ and_mask x n
 
 -- `(high << n) | low` is a sum
-pub joined : {high n low : ℕ} → Joins high n low → bit_or ((high * 2 ^ n) % 2 ^ 64) low ≡ high * 2 ^ n + low
-joined {high} {n} {low} j =
+pub join-is : {high n low : ℕ} → Joins high n low → bit_or ((high * 2 ^ n) % 2 ^ 64) low ≡ high * 2 ^ n + low
+join-is {high} {n} {low} j =
     ap (λ (m : ℕ). bit_or m low) (mod-eq_of_lt j.room) ∙ or_shifted high n low j.fits
 
 -- a number of i bits and one of n bits can be joined
@@ -27,8 +27,8 @@ pub joins : (i n : ℕ) {h l : ℕ} → h < 2 ^ i → l < 2 ^ n → (i + n ≤ 6
 joins i n p q w = record { narrow = w.1; fits = q; room = lt_of_lt_of_le (shl_lt i n p) (pow_mono w.0) }
 
 -- and are a number of i + n bits
-pub joined-lt : (i n k : ℕ) {h l : ℕ} → h < 2 ^ i → l < 2 ^ n → i + n ≤ k → h * 2 ^ n + l < 2 ^ k
-joined-lt i n k p q w = lt_of_lt_of_le (rw (pow-add 2 i n) (digits_lt p q)) (pow_mono w)
+pub join-lt : (i n k : ℕ) {h l : ℕ} → h < 2 ^ i → l < 2 ^ n → i + n ≤ k → h * 2 ^ n + l < 2 ^ k
+join-lt i n k p q w = lt_of_lt_of_le (rw (pow-add 2 i n) (digits_lt p q)) (pow_mono w)
 
 -- shifted to the left by s in 64 bits, x has on its front its w bits after the s highest
 pub front-after : (x s w : ℕ) → s + w ≤ 64 → (x * 2 ^ s) % 2 ^ 64 / 2 ^ (64 - w) ≡ x / 2 ^ (64 - s - w) % 2 ^ w
@@ -87,12 +87,12 @@ parts b low n part byte inside fits =
     let rest : ℕ = 8 - (low + n) in
     let wide : b < 2 ^ (rest + (low + n)) = lt_of_lt_of_le byte (pow_mono {i = 8} (omega arith)) in
     let above-lt : above < 2 ^ rest = shr_lt rest (low + n) wide in
-    let top_lt : top b low n part < 2 ^ (8 - low) = joined-lt rest n (8 - low) above-lt fits (omega arith) in
+    let top_lt : top b low n part < 2 ^ (8 - low) = join-lt rest n (8 - low) above-lt fits (omega arith) in
     let below-lt : b % 2 ^ low < 2 ^ low = mod-lt b (pow_pos low) in
     let upper : new b low n part / 2 ^ low ≡ top b low n part = high (top b low n part) low below-lt in record {
       first = joins rest n above-lt fits (omega arith);
       second = joins (8 - low) low top_lt below-lt (omega arith);
-      byte = joined-lt (8 - low) low 8 top_lt below-lt (omega arith);
+      byte = join-lt (8 - low) low 8 top_lt below-lt (omega arith);
       is = record {
         above = sym (shr-shr (new b low n part) low n) ∙ ap (λ (x : ℕ). x / 2 ^ n) upper ∙ high above n fits;
         here = ap (λ (x : ℕ). x % 2 ^ n) upper ∙ low_of above n fits;

@@ -1,13 +1,11 @@
--- Taking a field. Eight bytes, the first the most significant, are the field of 64 bits. A field of at most 32 is a part of the
--- word from its first byte on: one law for every width. Assumes nothing.
-use mathlib.Core.Path.{◌≡◌, sym, ap, ◌∙◌}
+-- Eight bytes, the first the most significant, are the field of 64 bits. Assumes nothing.
+use mathlib.Core.Path.{◌≡◌, ap, ◌∙◌}
 use mathlib.Core.List.{List}
-use Prim.Native.Nat.{ℕ, ◌+◌, ◌-◌, ◌*◌, ◌/◌, ◌%◌, ◌^◌, ◌≤◌}
+use Prim.Native.Nat.{ℕ, ◌+◌, ◌*◌, ◌^◌}
 use native.Mathlib.Omega.{arith}
 use lib.ListN.{get_or}
-use lib.Pow.{shr-shr}
 use Rattle.plan.specs.Field.{field}
-use Rattle.laws.proofs.Fields.{Bytes, field-split, field-part, field_at, field-byte}
+use Rattle.laws.proofs.Fields.{Bytes, field-split, field_at, field-byte}
 
 -- the first k bytes of the eight from byte i on, and the next
 next-byte : (s : List ℕ) (i k : ℕ) → Bytes s → field s (8 * i) (8 * k + 8) ≡ field s (8 * i) (8 * k) * 2 ^ 8 + get_or s (i + k) 0
@@ -25,15 +23,3 @@ eight_bytes s i b =
     let first : i + 0 ≡ i = omega arith in
     let one : field s (8 * i) 8 ≡ get_or s i 0 = omega (arith, field-byte s i (b i)) in
     omega (arith, one, next 1, next 2, next 3, next 4, next 5, next 6, next 7)
-
--- a field in the word from its first byte on
-pub field-in-word : (s : List ℕ) (at w : ℕ) → w ≤ 32
-    → field s at w ≡ field s (8 * (at / 8)) 64 / 2 ^ 1 / 2 ^ (63 - at % 8 - w) % 2 ^ w
-field-in-word s at w h =
-    let rest : ℕ = 63 - at % 8 - w in
-    let place : at ≡ 8 * (at / 8) + at % 8 = omega arith in
-    let all : at % 8 + w + (1 + rest) ≡ 64 = omega arith in
-    field_at s w place
-    ∙ field-part s (8 * (at / 8)) (at % 8) w (1 + rest)
-    ∙ ap (λ (x : ℕ). field s (8 * (at / 8)) x / 2 ^ (1 + rest) % 2 ^ w) all
-    ∙ ap (λ (x : ℕ). x % 2 ^ w) (sym (shr-shr (field s (8 * (at / 8)) 64) 1 rest))

@@ -2,4 +2,5 @@
 pub mod Words
 pub mod Take
 pub mod Put
+pub mod Begun
 pub mod Runs

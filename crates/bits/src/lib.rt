@@ -4,12 +4,13 @@
 #![tactic(auto)]
 
 ghost use Rattle.std.specs.Prelude.{◌≡◌, ◌+◌, ◌-◌, ◌*◌, ◌/◌, ◌%◌, ◌^◌, ◌≤◌, ◌<◌, length};
-ghost use Rattle.bits.specs.Take.{Reach, Took, FrontReach, FrontTaken};
+ghost use Rattle.bits.specs.Take.{Reach, Took, FrontIs, FieldTaken};
 ghost use Rattle.bits.specs.Put.{Room, WholeBytes, Put, InByte};
 
+pub mod begun;
 pub mod words;
 
-use crate::words::{bits_after, extract, insert, word_within};
+use crate::words::{extract, highest, insert, word_within};
 
 // A place between two bits of a file, counted from its first bit. It is handed on by value, beside the file, as the scope document has it.
 #[derive(Clone, Copy)]
@@ -17,53 +18,77 @@ pub struct BitPlace {
     pub at: usize,
 }
 
-// What was taken, and the place where it ended: a field's value, or bits of a file on the front of a word, its highest.
+// The bits of a file from a place on, on the front of a word, its highest: fields are taken from it one after another without another
+// load, and each hands on the bits and the place behind it.
 #[derive(Clone, Copy)]
-pub struct Taken<T> {
-    pub value: T,
-    pub next: BitPlace,
+pub struct Front {
+    pub bits: u64,
+    pub place: BitPlace,
+}
+
+// What was taken, and what is handed on behind it.
+#[derive(Clone, Copy)]
+pub struct Taken<V, N> {
+    pub value: V,
+    pub next: N,
+}
+
+impl Front {
+    // The field of `width` bits on this front, 57 at most, and the front behind it.
+    pub fn take(self, width: u32) -> Taken<u64, Front>
+        requires { (width ≤ 57) × (self.place.at + width < 2 ^ 64) }
+        ensures { FieldTaken self width result }
+    {
+        let value = highest(self.bits, width);
+        let next = Front {
+            bits: self.bits << width,
+            place: BitPlace {
+                at: self.place.at + width as usize,
+            },
+        };
+        Taken { value, next }
+    }
 }
 
 impl BitPlace {
+    // The place after so many fields of `width` bits.
+    pub fn past(self, fields: usize, width: u32) -> BitPlace
+        requires { self.at + width * fields < 2 ^ 64 }
+        ensures { result.at ≡ self.at + width * fields }
+    {
+        BitPlace {
+            at: self.at + width as usize * fields,
+        }
+    }
+
+    // The byte where the word from this place's byte on ends.
+    pub fn reach(self) -> usize
+        ensures { result ≡ self.at / 8 + 8 }
+    {
+        self.at / 8 + 8
+    }
+
     // The field of `width` bits at this place, and the next place.
-    pub fn take(self, file: &[u8], width: u32) -> Taken<u32>
+    pub fn take(self, file: &[u8], width: u32) -> Taken<u32, BitPlace>
         requires { Reach self.at width }
         ensures { Took file.now self.at width result.value result.next.at }
     {
-        let reach = self.at / 8 + 8;
-        self.take_within(file, width, reach)
-    }
-
-    // The same, of a field whose word ends at byte `reach` or before: one test of the file's length will do for many fields
-    // with the same `reach`. A field's bits lie in one word, so there is no loop.
-    pub fn take_within(self, file: &[u8], width: u32, reach: usize) -> Taken<u32>
-        requires { Reach self.at width × (self.at / 8 + 8 ≤ reach) }
-        ensures { Took file.now self.at width result.value result.next.at }
-    {
-        let at = self.at;
-        let word = word_within(file, at / 8, reach);
-        let skip = (at % 8) as u32;
-        let value = bits_after(word, skip, width) as u32;
-        let next = at + width as usize;
+        let field = self.front(file, self.reach()).take(width);
         Taken {
-            value,
-            next: BitPlace { at: next },
+            value: field.value as u32,
+            next: field.next.place,
         }
     }
 
-    // The run of `width` bits at this place, 57 at most, on the front of a word, and the next place: fields are then cut from the
-    // front one after another, without another load. The word ends at byte `reach` or before.
-    pub fn take_front(self, file: &[u8], width: u32, reach: usize) -> Taken<u64>
-        requires { FrontReach self.at width reach }
-        ensures { FrontTaken file.now self.at width result }
+    // The bits from this place on, 57 of them at least, on the front of a word that ends at byte `reach` or before: one test of the file's
+    // length will do for many fronts with the same `reach`.
+    pub fn front(self, file: &[u8], reach: usize) -> Front
+        requires { self.at / 8 + 8 ≤ reach }
+        ensures { (result.place.at ≡ self.at) × FrontIs file.now 57 result }
     {
         let at = self.at;
-        let value = word_within(file, at / 8, reach) << (at % 8) as u32;
-        let past = at + width as usize;
-        Taken {
-            value,
-            next: BitPlace { at: past },
-        }
+        let bits = word_within(file, at / 8, reach) << (at % 8) as u32;
+        Front { bits, place: self }
     }
 
     // Puts the field of `width` bits at this place, a byte a turn, and gives the next place. Each turn goes on by as many bits as lie in

@@ -18,21 +18,14 @@ pub fn extract(x: u64, low: u32, n: u32) -> u64
 
 // ---- taken: the word of eight bytes
 
-// The n bits of a word after its `skip` highest.
-pub fn bits_after(word: u64, skip: u32, n: u32) -> u64
-    requires { (skip < 8) × (n ≤ 32) }
-    ensures { result ≡ word / 2 ^ 1 / 2 ^ (63 - skip - n) % 2 ^ n }
-{
-    // two shifts to the right, since a field of no bits would be one by 64
-    ((word << skip) >> 1) >> (63 - n)
-}
-
 // The n highest bits of a word.
 pub fn highest(word: u64, n: u32) -> u64
-    requires { (0 < n) × (n ≤ 64) }
-    ensures { result ≡ word / 2 ^ (64 - n) }
+    requires { n < 64 }
+    ensures is { result ≡ word / 2 ^ (64 - n) }
+    ensures fits { result < 2 ^ n }
 {
-    word >> (64 - n)
+    // two shifts, since one of no bits would be by 64
+    (word >> 1) >> (63 - n)
 }
 
 // The 64 bits from byte i on, which end at byte `reach` or before.
@@ -64,16 +57,9 @@ fn word_inside(file: &[u8], i: usize) -> u64
     requires { i + 8 ≤ length file.now }
     ensures { result ≡ field file.now (8 * i) 64 }
 {
-    u64::from_be_bytes([
-        file[i],
-        file[i + 1],
-        file[i + 2],
-        file[i + 3],
-        file[i + 4],
-        file[i + 5],
-        file[i + 6],
-        file[i + 7],
-    ])
+    let mut bytes = [0; 8];
+    bytes.copy_from_slice(&file[i..i + 8]);
+    u64::from_be_bytes(bytes)
 }
 
 // The same near the file's end: a byte past it is 0.

@@ -36,12 +36,12 @@ open-sum s k =
     ap all_open (risks-more s header_bits k) ∙ all-open-more (risks_from s header_bits k) (claims_at s (past_risks s header_bits k))
 
 -- after k risks: the claims counted, whether each risk's first opens an accident, and the place of the next risk
-pub record Counting (s : List ℕ) (k p claims : ℕ) (opened : Bool) : Type 0 where
+pub record Counting (s : List ℕ) (k p claims : ℕ) (each_opens : Bool) : Type 0 where
   pub place : p ≡ past_risks s header_bits k
   pub claims_are : claims ≡ sum (counts_from s header_bits k)
-  pub opened_is : opened ≡ all_open (risks_from s header_bits k)
+  pub each_opens_are : each_opens ≡ all_open (risks_from s header_bits k)
 
-module _ {s : List ℕ} {k p claims : ℕ} {opened : Bool} (w : Counting s k p claims opened) where
+module _ {s : List ℕ} {k p claims : ℕ} {each_opens : Bool} (w : Counting s k p claims each_opens) where
   pub counting-place : p ≤ header_bits + most_risk_bits * k
   counting-place = omega (arith, w.place, past-risks-le s header_bits k)
 
@@ -50,7 +50,7 @@ module _ {s : List ℕ} {k p claims : ℕ} {opened : Bool} (w : Counting s k p c
 
   -- one count more, as the code has it: taken at p, the first of as many claims looked at, and the place after them
   pub counting_more : (edition : Edition) {t : RiskHead} {q : ℕ} → HeadIs s p t → LieAs s edition
-      → q ≡ t.claims.first.at + claim_width (edition_number edition) * t.claims.count → Counting s (k + 1) q (claims + t.claims.count) (opened && t.opened)
+      → q ≡ t.claims.first.at + claim_width (edition_number edition) * t.claims.count → Counting s (k + 1) q (claims + t.claims.count) (each_opens && t.first_opens)
   counting_more edition {t} {q} x same e =
       let end : q ≡ past_risk s p =
       e
@@ -60,5 +60,5 @@ module _ {s : List ℕ} {k p claims : ℕ} {opened : Bool} (w : Counting s k p c
       record {
         place = end ∙ ap (past_risk s) w.place ∙ sym (past-risks-more s header_bits k);
         claims_are = ap₂ ◌+◌ w.claims_are (x.count ∙ ap (count_at s) w.place) ∙ sym (counts-sum s k);
-        opened_is = ap₂ ◌&&◌ w.opened_is (x.opened ∙ ap (λ (a : ℕ). opens (claims_at s a)) w.place) ∙ sym (open-sum s k);
+        each_opens_are = ap₂ ◌&&◌ w.each_opens_are (x.first_opens ∙ ap (λ (a : ℕ). opens (claims_at s a)) w.place) ∙ sym (open-sum s k);
       }

@@ -3,5 +3,6 @@ mod Taking
 mod Reach
 mod Opening
 mod Counting
+mod ToCome
 -- what crates above cite
 pub mod Laws

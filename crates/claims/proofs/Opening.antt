@@ -6,13 +6,13 @@ use Prim.Native.Nat.{ℕ, zero, suc}
 use native.Mathlib.Omega.{arith}
 use borrow.Author.Tests.{ne_eqb}
 use lib.Dec.{eqb}
-use Rattle.plan.specs.Claim.{joined, claim_at, claims_from}
+use Rattle.plan.specs.Claim.{joins, claim_at, claims_from}
 use Rattle.plan.specs.Accidents.{opens}
 
 -- where there is none, or the first one's bit is 0
-pub joined-opens : (s : List ℕ) (at : ℕ) {k b : ℕ} (n : ℕ) → k ≡ n → b ≡ joined (claim_at s at)
+pub joined-opens : (s : List ℕ) (at : ℕ) {k b : ℕ} (n : ℕ) → k ≡ n → b ≡ joins (claim_at s at)
     → (eqb k 0 || eqb b 0) ≡ opens (claims_from s at n)
 joined-opens s at {k} {b} zero e f = ap (λ (x : ℕ). eqb x 0 || eqb b 0) e
 joined-opens s at {k} {b} (suc n) e f =
     ap₂ (λ (x y : ℕ). eqb x 0 || eqb y 0) e f
-    ∙ ap (λ (z : Bool). z || eqb (joined (claim_at s at)) 0) (ne_eqb (suc n) 0 (λ z. omega (arith, z)))
+    ∙ ap (λ (z : Bool). z || eqb (joins (claim_at s at)) 0) (ne_eqb (suc n) 0 (λ z. omega (arith, z)))

@@ -1,18 +1,17 @@
--- Claims on a word's front, whichever edition's: where the word has n bits of the file ahead, the claim after m of them is the one at
--- that place; and so with the claims after i others of a run. Assumes nothing.
+-- Claims taken from a front, whichever edition's: by its number a claim is the one at its place; and so with the claims after i others of a
+-- run. Assumes nothing.
 use mathlib.Core.Path.{◌≡◌, refl, sym, ap, ap₂, ◌∙◌}
 use mathlib.Core.List.{List, [], ◌∷◌, ◌++◌}
-use Prim.Native.Nat.{ℕ, ◌+◌, ◌*◌, ◌/◌, ◌%◌, ◌^◌, ◌≤◌}
+use Prim.Native.Nat.{ℕ, ◌+◌, ◌/◌, ◌%◌, ◌^◌}
 use native.Mathlib.Omega.{arith}
 use Rattle.plan.specs.Field.{field}
 use Rattle.plan.specs.Header.{edition_of}
-use Rattle.plan.specs.Claim.{Claim, claim, joined, dollars, joined_width, dollars_width, claim_width, claim_at, past_claim, claims_from, past_claims}
-use Rattle.laws.proofs.Claims.{width_is, joined_at, dollars-at, past-claim, claims-split}
-use Rattle.bits.specs.Take.{Ahead}
-use Rattle.bits.proofs.Laws.{front-part}
+use Rattle.plan.specs.Claim.{Claim, claim, joins, dollars, joined_width, dollars_width, claim_width, claim_at, past_claim, claims_from, past_claims}
+use Rattle.laws.proofs.Claims.{width_is, joined-of-both, dollars-of-both, claims-split}
 use Rattle.group.specs.Edition.{edition_number, LieAs}
 use Rattle.group.specs.declared.edition.Edition.{Edition}
-use Rattle.claims.specs.Sums.{claim_in, first_low, second_low}
+use Rattle.claims.specs.Claim.{claim_of}
+use Rattle.claims.specs.declared.claim.FileClaim.{FileClaim}
 
 -- the claims of a file that lie as those of an edition have their width
 pub width-like : (s : List ℕ) (e : Edition) → LieAs s e → claim_width (edition_number e) ≡ claim_width (edition_of s)
@@ -23,37 +22,27 @@ module _ (s : List ℕ) {b : ℕ} (e : joined_width (edition_of s) ≡ b) where
   pub width-by : b + dollars_width ≡ claim_width (edition_of s)
   width-by = omega (arith, width_is (edition_of s), e)
 
-  -- a claim that lies in a word, of which n bits are ahead, after m of them
-  claim-there : (at : ℕ) {p n word : ℕ} (m low : ℕ) → Ahead s p n word → m + (b + 20) ≤ n → m + (b + 20) + low ≡ 64 → p + m ≡ at
-      → claim_in b word low ≡ claim_at s at
-  claim-there at {p} {n} {word} m low a h all place =
-      let bit : word / 2 ^ (low + dollars_width) % 2 ^ b ≡ joined (claim_at s at) =
-      ap (λ (k : ℕ). word / 2 ^ k % 2 ^ b) (omega (arith, all))
-      ∙ front-part a (m + b) (omega arith) b (omega arith)
-      ∙ ap₂ (field s) (omega (arith, place)) (sym e)
-      ∙ sym (joined_at s at) in
-      let sum : word / 2 ^ low % 2 ^ dollars_width ≡ dollars (claim_at s at) =
-      ap (λ (k : ℕ). word / 2 ^ k % 2 ^ dollars_width) (omega (arith, all))
-      ∙ front-part a (m + b + 20) (omega arith) dollars_width (omega arith)
-      ∙ ap (λ (x : ℕ). field s x dollars_width) (omega (arith, place, e))
-      ∙ sym (dollars-at s at) in
-      ap₂ claim bit sum ∙ parts (claim_at s at)
+  -- both fields taken as one are the claim
+  pub claim-by : (at : ℕ) (c : FileClaim) → c.number ≡ field s at (b + dollars_width) → claim_of c ≡ claim_at s at
+  claim-by at c is =
+      let both : c.number ≡ field s at (claim_width (edition_of s)) = is ∙ ap (field s at) width-by in
+      ap₂ claim (ap (λ (x : ℕ). x / 2 ^ dollars_width) both ∙ joined-of-both s at)
+      (ap (λ (x : ℕ). x % 2 ^ dollars_width) both ∙ dollars-of-both s at)
+      ∙ parts (claim_at s at)
     where
-      parts : (c : Claim) → claim (joined c) (dollars c) ≡ c
+      parts : (c : Claim) → claim (joins c) (dollars c) ≡ c
       parts (claim j d) = refl
 
-  module _ (few : b ≤ 1) (at i : ℕ) {p n word : ℕ} (here : p ≡ past_claims s at i) (a : Ahead s p n word) where
-    -- the claim after i others is on the front
-    pub one-there : b + 20 ≤ n → claims_from s at i ++ claim_in b word (first_low b) ∷ [] ≡ claims_from s at (i + 1)
-    one-there h =
-        let c = claim-there (past_claims s at i) 0 (first_low b) a (omega arith) (omega arith) (omega (arith, here)) in
-        ap (λ (x : Claim). claims_from s at i ++ x ∷ []) c ∙ sym (claims-split s at i 1)
+-- the claim after i others of a run
+pub one-more : (s : List ℕ) (at i : ℕ) {p : ℕ} {c : Claim} → p ≡ past_claims s at i → c ≡ claim_at s p
+    → claims_from s at i ++ c ∷ [] ≡ claims_from s at (i + 1)
+one-more s at i here is =
+    ap (λ (x : Claim). claims_from s at i ++ x ∷ []) (is ∙ ap (claim_at s) here) ∙ sym (claims-split s at i 1)
 
-    -- and the next one behind it
-    pub two-there : 2 * (b + 20) ≤ n
-        → claims_from s at i ++ claim_in b word (first_low b) ∷ claim_in b word (second_low b) ∷ [] ≡ claims_from s at (i + 2)
-    two-there h =
-        let c = claim-there (past_claims s at i) 0 (first_low b) a (omega arith) (omega arith) (omega (arith, here)) in
-        let next : p + (b + 20) ≡ past_claim s (past_claims s at i) = omega (arith, here, past-claim s (past_claims s at i), width-by) in
-        let d = claim-there (past_claim s (past_claims s at i)) (b + 20) (second_low b) a (omega arith) (omega arith) next in
-        ap₂ (λ (x y : Claim). claims_from s at i ++ x ∷ y ∷ []) c d ∙ sym (claims-split s at i 2)
+-- and the one behind it
+pub two-more : (s : List ℕ) (at i : ℕ) {p : ℕ} {c d : Claim} → p ≡ past_claims s at i → c ≡ claim_at s p
+    → d ≡ claim_at s (past_claim s p) → claims_from s at i ++ c ∷ d ∷ [] ≡ claims_from s at (i + 2)
+two-more s at i here is next =
+    ap₂ (λ (x y : Claim). claims_from s at i ++ x ∷ y ∷ []) (is ∙ ap (claim_at s) here)
+    (next ∙ ap (λ (q : ℕ). claim_at s (past_claim s q)) here)
+    ∙ sym (claims-split s at i 2)

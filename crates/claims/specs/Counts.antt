@@ -11,10 +11,10 @@ use Rattle.claims.specs.declared.counts.Counted.{Counted}
 pub record HeadIs (s : List ℕ) (at : ℕ) (r : RiskHead) : Type 0 where
   pub count : r.claims.count ≡ count_at s at
   pub first : r.claims.first.at ≡ first_claim at
-  pub opened : r.opened ≡ opens (claims_at s at)
+  pub first_opens : r.first_opens ≡ opens (claims_at s at)
 
 -- by the counts of the first n risks: where they end, how many claims they have, and whether each one's first opens an accident
 pub record CountedIs (s : List ℕ) (n : ℕ) (r : Counted) : Type 0 where
   pub end : r.end.at ≡ past_risks s header_bits n
   pub claims : r.claims ≡ sum (counts_from s header_bits n)
-  pub opened : r.opened ≡ all_open (risks_from s header_bits n)
+  pub each_opens : r.each_opens ≡ all_open (risks_from s header_bits n)

@@ -3,3 +3,4 @@ pub mod Claim
 pub mod Run
 pub mod Sums
 pub mod Counts
+pub mod Cursor

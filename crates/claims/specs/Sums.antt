@@ -1,26 +1,11 @@
 -- What the sums over some claims of a risk are asked for and give, whichever edition's: `Are` says of which claims they are, by which
 -- loss limit.
-use Rattle.std.specs.Prelude.{◌≡◌, List, ◌++◌, ℕ, ◌+◌, ◌-◌, ◌*◌, ◌/◌, ◌%◌, ◌^◌, ◌≤◌, length}
+use Rattle.std.specs.Prelude.{◌≡◌, List, ◌++◌, ℕ, ◌+◌, ◌≤◌, length}
 use Rattle.plan.specs.Sizes.{most_claims}
-use Rattle.plan.specs.Claim.{Claim, claim, dollars_width}
+use Rattle.plan.specs.Claim.{Claim}
 use Rattle.plan.specs.Losses.{total_of, limited_of}
 use Rattle.bits.specs.declared.BitPlace.{BitPlace}
 use Rattle.claims.specs.declared.run.ClaimRun.{ClaimRun}
-
--- ---- claims in a word
-
--- a claim with so many bits before its dollars in a word, above its `low` lowest bits
-abbrev pub claim_in : ℕ → ℕ → ℕ → Claim
-claim_in bits w low = claim (w / 2 ^ (low + dollars_width) % 2 ^ bits) (w / 2 ^ low % 2 ^ dollars_width)
-
--- the bits of a word below the first of two claims on its front, and below the second
-abbrev pub first_low : ℕ → ℕ
-first_low bits = 64 - (bits + dollars_width)
-
-abbrev pub second_low : ℕ → ℕ
-second_low bits = 64 - 2 * (bits + dollars_width)
-
--- ---- the sums
 
 -- L and A of some claims, and the place after them
 pub record LossesOf (cs : List Claim) (limit : ℕ) (next : BitPlace) (q : ClaimRun) : Type 0 where

@@ -9,20 +9,14 @@ ghost use Rattle.claims.specs.Counts.{HeadIs, CountedIs};
 
 use crate::span::ClaimSpan;
 use bits::BitPlace;
-use bits::words::{extract, highest};
 use group::edition::ClaimFile;
 use group::widths::{COUNT_WIDTH, joined_width};
-
-// Bits of a count and of the bit behind it, and those of a word below a count.
-const HEAD_WIDTH: u32 = 7;
-
-const BELOW_COUNT: u32 = 58;
 
 // What a risk begins with tells: where its claims are, and whether the first of them opens an accident.
 #[derive(Clone, Copy)]
 pub struct RiskHead {
     pub claims: ClaimSpan,
-    pub opened: bool,
+    pub first_opens: bool,
 }
 
 // What the counts of risks tell, and the bits of their first claims: the place where the last field ends, how many claims there are,
@@ -31,7 +25,7 @@ pub struct RiskHead {
 pub struct Counted {
     pub end: BitPlace,
     pub claims: u32,
-    pub opened: bool,
+    pub each_opens: bool,
 }
 
 // The claims of the risk that begins at a place, and whether the first opens an accident: there is none, or its bit is 0. That bit
@@ -40,16 +34,15 @@ pub fn head_at(file: &ClaimFile<'_>, place: BitPlace) -> RiskHead
     requires { place.at + count_width ≤ most_file_bits }
     ensures { HeadIs file.now.bytes.now place.at result }
 {
-    let reach = place.at / 8 + 8;
-    let front = place.take_front(file.bytes, HEAD_WIDTH, reach);
-    let count = highest(front.value, COUNT_WIDTH) as u32;
-    let at = place.at + COUNT_WIDTH as usize;
-    let first = BitPlace { at };
-    let width = joined_width(file.edition);
-    let bit = extract(front.value, BELOW_COUNT - width, width);
+    let front = place.front(file.bytes, place.reach());
+    let count = front.take(COUNT_WIDTH);
+    let bit = count.next.take(joined_width(file.edition));
     RiskHead {
-        claims: ClaimSpan { first, count },
-        opened: (count == 0) | (bit == 0),
+        claims: ClaimSpan {
+            first: count.next.place,
+            count: count.value as u32,
+        },
+        first_opens: (count.value == 0) | (bit.value == 0),
     }
 }
 
@@ -60,17 +53,17 @@ pub fn count_claims(file: &ClaimFile<'_>, place: BitPlace, risks: u32) -> Counte
     ensures { CountedIs file.now.bytes.now risks result }
 {
     let mut claims: u32 = 0;
-    let mut opened = true;
+    let mut each_opens = true;
     let mut next = place;
     for _ in 0..risks {
         let head = head_at(file, next);
         claims += head.claims.count;
-        opened &= head.opened;
+        each_opens &= head.first_opens;
         next = head.claims.end(file.edition);
     }
     Counted {
         end: next,
         claims,
-        opened,
+        each_opens,
     }
 }

@@ -4,6 +4,7 @@
 
 pub mod claim;
 pub mod counts;
+pub mod cursor;
 pub mod run;
 pub mod span;
 pub mod sums;

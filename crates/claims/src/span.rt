@@ -21,14 +21,15 @@ impl ClaimSpan {
     pub fn end(self, edition: Edition) -> BitPlace
         ensures { result.at ≡ self.first.at + claim_width (edition_number edition) * self.count }
     {
-        let at = self.first.at + claim_width(edition) as usize * self.count as usize;
-        BitPlace { at }
+        self.first.past(self.count as usize, claim_width(edition))
     }
 
     // A byte that no word of the claims, of either edition, ends after: one test of the file's length will do for all of them.
     pub fn last_byte(self) -> usize
         ensures { ClaimReach self.first.at self.count result }
     {
-        (self.first.at + MOST_CLAIM_WIDTH as usize * self.count as usize) / 8 + 8
+        self.first
+            .past(self.count as usize, MOST_CLAIM_WIDTH)
+            .reach()
     }
 }

@@ -7,7 +7,7 @@ use Rattle.plan.specs.Questions.{first_no, rating_questions}
 use Rattle.plan.specs.Call.{answer}
 use Rattle.group.specs.Refusals.{answer_is}
 use Rattle.group.specs.Values.{header_is, LossesAre}
-use Rattle.groupfile.specs.Opening.{RiskRunIs}
+use Rattle.groupfile.specs.Opening.{RiskLayoutIs}
 use Rattle.steps.specs.Terms.{terms_is}
 use Rattle.groupfile.specs.declared.opening.Opened.{Opened}
 use Rattle.steps.specs.declared.bill.Terms.{Terms}
@@ -16,5 +16,5 @@ use Rattle.steps.specs.declared.bill.Terms.{Terms}
 pub record RatingOpenedIs (s : List ℕ) (r : Opened Terms) : Type 0 where
   pub verdict : answer_is terms_is r.verdict ≡ answer (first_no (rating_questions s)) (terms_of (header_of s) (losses_in s))
   pub header : header_is r.header ≡ header_of s
-  pub run : RiskRunIs s r.run
+  pub layout : RiskLayoutIs s r.layout
   pub losses : LossesAre (losses_in s) r.losses

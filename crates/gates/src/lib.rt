@@ -41,14 +41,14 @@ pub fn open_rating(file: &[u8]) -> Opened<Terms>
     let Opened {
         verdict,
         header,
-        run,
+        layout,
         losses,
     } = open_losses(file);
     let terms = verdict.and_then(|()| balance(header, &losses));
     Opened {
         verdict: terms,
         header,
-        run,
+        layout,
         losses,
     }
 }

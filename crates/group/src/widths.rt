@@ -32,6 +32,9 @@ pub const SPARE_WIDTH: u32 = 1;
 // Bits of a risk's number of claims.
 pub const COUNT_WIDTH: u32 = 6;
 
+// Bits of the field before a claim's dollars, in edition 2.
+pub const JOINED_WIDTH: u32 = 1;
+
 // Bits of a claim's dollars, and the most of a claim.
 pub const DOLLARS_WIDTH: u32 = 20;
 

@@ -7,12 +7,12 @@ use Rattle.plan.specs.Losses.{losses_in}
 use Rattle.plan.specs.Questions.{Question, first_no}
 use Rattle.group.specs.Refusals.{verdict_is}
 use Rattle.group.specs.Values.{header_is, LossesAre}
-use Rattle.groupfile.specs.declared.opening.RiskRun.{RiskRun}
+use Rattle.groupfile.specs.declared.opening.RiskLayout.{RiskLayout}
 use Rattle.groupfile.specs.declared.opening.Opened.{Opened}
 use Rattle.groupfile.specs.declared.opening.Outline.{Outline}
 
 -- the risks of the file s: the edition in which they lie, where they begin, and how many claims there are
-pub record RiskRunIs (s : List ℕ) (r : RiskRun) : Type 0 where
+pub record RiskLayoutIs (s : List ℕ) (r : RiskLayout) : Type 0 where
   pub edition : r.edition ≡ edition_of s
   pub first : r.first.at ≡ header_bits
   pub claims : r.claims ≡ sum (counts_of s)
@@ -21,7 +21,7 @@ pub record RiskRunIs (s : List ℕ) (r : RiskRun) : Type 0 where
 pub record OpenedIs (gate : List Question) (s : List ℕ) (r : Opened Unit) : Type 0 where
   pub verdict : verdict_is r.verdict ≡ first_no gate
   pub header : header_is r.header ≡ header_of s
-  pub run : RiskRunIs s r.run
+  pub layout : RiskLayoutIs s r.layout
   pub losses : LossesAre (losses_in s) r.losses
 
 -- the same without the losses: n in their place
@@ -29,4 +29,4 @@ pub record OutlineIs (gate : List Question) (s : List ℕ) (r : Outline) : Type 
   pub verdict : verdict_is r.verdict ≡ first_no gate
   pub header : header_is r.header ≡ header_of s
   pub risks : r.risks ≡ risk_count s
-  pub run : RiskRunIs s r.run
+  pub layout : RiskLayoutIs s r.layout

@@ -21,7 +21,7 @@ use losses::walking::walk;
 // none's, the place of the first, and the number of all claims. A file opened with its losses has them too, for a call that goes over
 // the claims again.
 #[derive(Clone, Copy)]
-pub struct RiskRun {
+pub struct RiskLayout {
     pub edition: u32,
     pub first: BitPlace,
     pub claims: u32,
@@ -33,7 +33,7 @@ pub struct RiskRun {
 pub struct Opened<T> {
     pub verdict: Result<T, Refusal>,
     pub header: Header,
-    pub run: RiskRun,
+    pub layout: RiskLayout,
     pub losses: GroupLosses,
 }
 
@@ -43,12 +43,12 @@ pub struct Outline {
     pub verdict: Result<(), Refusal>,
     pub header: Header,
     pub risks: u32,
-    pub run: RiskRun,
+    pub layout: RiskLayout,
 }
 
 // Questions 8, 9 and 19 of a file, by what its counts tell.
 fn end_verdict(file: &[u8], counted: Counted) -> Result<(), Refusal>
-    requires { (counted.end.at ≡ end_of file.now) × (counted.opened ≡ all_open (risks_of file.now)) }
+    requires { (counted.end.at ≡ end_of file.now) × (counted.each_opens ≡ all_open (risks_of file.now)) }
     ensures { verdict_is result ≡ first_no (end_questions file.now) }
 {
     let end = counted.end;
@@ -60,7 +60,7 @@ fn end_verdict(file: &[u8], counted: Counted) -> Result<(), Refusal>
     if fill.value != 0 {
         return Err(Refusal::Fill);
     }
-    if !counted.opened {
+    if !counted.each_opens {
         return Err(Refusal::FirstJoined);
     }
     Ok(())
@@ -69,7 +69,7 @@ fn end_verdict(file: &[u8], counted: Counted) -> Result<(), Refusal>
 // Questions 1 to 9 and 19 of a file with this header, by what its counts tell.
 fn file_verdict(file: &[u8], header: FileHeader, counted: Counted) -> Result<(), Refusal>
     requires file_header_is { FileHeaderIs file.now header }
-    requires at_value { (counted.end.at ≡ end_of file.now) × (counted.opened ≡ all_open (risks_of file.now)) }
+    requires at_value { (counted.end.at ≡ end_of file.now) × (counted.each_opens ≡ all_open (risks_of file.now)) }
     ensures { verdict_is result ≡ first_no (file_questions file.now) }
 {
     if file.len() < HEADER_BYTES {
@@ -95,7 +95,7 @@ pub fn open(file: &[u8]) -> Opened<()>
     Opened {
         verdict: file_verdict(file, header, walked.counted),
         header: values,
-        run: RiskRun {
+        layout: RiskLayout {
             edition: header.edition,
             first,
             claims: walked.counted.claims,
@@ -118,7 +118,7 @@ pub fn open_outline(file: &[u8]) -> Outline
         verdict: file_verdict(file, header, counted),
         header: header.values,
         risks,
-        run: RiskRun {
+        layout: RiskLayout {
             edition: header.edition,
             first,
             claims: counted.claims,

@@ -21,12 +21,12 @@ use Rattle.steps.specs.declared.bill.Terms.{Terms}
 use Rattle.rating.specs.Bills.{bills_of}
 
 -- of the differences of bills, i are put and summed
-pub record Differencing (bills : List ℕ) (cost : ℕ) (old : List ℤ) (i : ℕ) (total : ℤ) (present : List ℤ) : Type 0 where
+pub record Differencing (bills : List ℕ) (cost : ℕ) (old : List ℤ) (i : ℕ) (so_far : ℤ) (present : List ℤ) : Type 0 where
   pub within : i ≤ length bills
   pub billed : ℕ
   pub billed_most : billed ≤ 2147483648 * i
   pub sums : billed + sum (drop i bills) ≡ sum bills
-  pub total_is : Differs total billed (i * cost)
+  pub so_far_is : Differs so_far billed (i * cost)
   pub puts : present ≡ filled (differences_of cost (take i bills)) old
 
 -- a bill less guaranteed cost fits 64 bits
@@ -46,11 +46,11 @@ module _ (t : Terms) (xs : List declared_losses.Losses) (cost : ℕ) (old : List
     billed = 0;
     billed_most = omega arith;
     sums = omega arith;
-    total_is = record { is = omega arith };
+    so_far_is = record { is = omega arith };
     puts = filled_none old;
   }
 
-  module _ {i : ℕ} {total : ℤ} {present : List ℤ} (w : Differencing bills cost old i total present) where
+  module _ {i : ℕ} {so_far : ℤ} {present : List ℤ} (w : Differencing bills cost old i so_far present) where
     put-length : length (differences_of cost (take i bills)) ≡ i
     put-length = length-map (take i bills) (λ bill. pos bill -ℤ pos cost) ∙ length-take-le i bills w.within
 
@@ -59,18 +59,18 @@ module _ (t : Terms) (xs : List declared_losses.Losses) (cost : ℕ) (old : List
 
     module _ {bill : ℕ} (h : i < length xs) (is : bill ≡ get_or bills i 0) (small : bill < 2 ^ 31) {z : ℤ} (e : z ≡ pos bill -ℤ pos cost) where
       -- the sum with the next
-      next : Differs (total +ℤ z) (w.billed + bill) ((i + 1) * cost)
+      next : Differs (so_far +ℤ z) (w.billed + bill) ((i + 1) * cost)
       next =
           let one : Differs z (bill + 0) (0 + cost) =
           subst (λ (y : ℤ). Differs y (bill + 0) (0 + cost)) (sym e) (of-minus (pos bill) (pos cost) (of-pos bill) (of-pos cost)) in
-          let x = of-add total z w.total_is one in
+          let x = of-add so_far z w.so_far_is one in
           record { is = omega (arith, x.is) }
 
-      pub sum_fits : cost < 2 ^ 32 → mag (total +ℤ z) < 2 ^ 63
+      pub sum_fits : cost < 2 ^ 32 → mag (so_far +ℤ z) < 2 ^ 63
       sum_fits c =
           let turn : i + 1 ≤ most_risks = omega (arith, h, few) in
           let most : (i + 1) * cost ≤ most_risks * 2 ^ 32 = mul-le-mul turn (le_of_lt c) in
-          mag-lt (total +ℤ z) next (omega (arith, w.billed_most, small, h, few)) (omega (arith, most))
+          mag-lt (so_far +ℤ z) next (omega (arith, w.billed_most, small, h, few)) (omega (arith, most))
 
       -- the bills to come are the next and those after it
       to-come : drop i bills ≡ bill ∷ drop (i + 1) bills
@@ -86,13 +86,13 @@ module _ (t : Terms) (xs : List declared_losses.Losses) (cost : ℕ) (old : List
           ∙ map-append (λ (b : ℕ). pos b -ℤ pos cost) (take i bills) (bill ∷ [])
           ∙ ap (λ (y : ℤ). differences_of cost (take i bills) ++ y ∷ []) (sym e)
 
-      pub differencing-more : Differencing bills cost old (i + 1) (total +ℤ z) (set present i z)
+      pub differencing-more : Differencing bills cost old (i + 1) (so_far +ℤ z) (set present i z)
       differencing-more = record {
         within = omega (arith, h, count);
         billed = w.billed + bill;
         billed_most = omega (arith, w.billed_most, small);
         sums = omega (arith, w.sums, ap sum to-come);
-        total_is = next;
+        so_far_is = next;
         puts =
             ap (λ (l : List ℤ). set l i z) w.puts
             ∙ filled_more (differences_of cost (take i bills)) old z put-length (omega (arith, h, enough))
@@ -103,11 +103,11 @@ module _ (t : Terms) (xs : List declared_losses.Losses) (cost : ℕ) (old : List
       all : i ≡ length bills
       all = omega (arith, h, w.within, count)
 
-      pub differences-summed : total ≡ sum_z (λ z. z) (differences_of cost bills)
+      pub differences-summed : so_far ≡ sum_z (λ z. z) (differences_of cost bills)
       differences-summed =
           let none : drop i bills ≡ [] = drop_of_length-le bills (omega (arith, all)) in
           let summed : w.billed ≡ sum bills = omega (arith, w.sums, ap sum none) in
-          same total (sum_z (λ z. z) (differences_of cost bills)) w.total_is (added cost bills) (λ j. summed j + sym all j * cost)
+          same so_far (sum_z (λ z. z) (differences_of cost bills)) w.so_far_is (added cost bills) (λ j. summed j + sym all j * cost)
 
       pub differences-put : present ≡ filled (differences_of cost bills) old
       differences-put = w.puts ∙ ap (λ (l : List ℕ). filled (differences_of cost l) old) (ap (λ (k : ℕ). take k bills) all ∙ take-length bills)

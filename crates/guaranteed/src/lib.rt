@@ -44,11 +44,11 @@ fn difference_of(bill: u32, cost: u32) -> i64
 }
 
 // A sum of differences and one more.
-fn sum_of(total: i64, difference: i64) -> i64
-    requires { SFits w64 (total +ℤ difference) }
-    ensures { result ≡ total +ℤ difference }
+fn sum_of(so_far: i64, difference: i64) -> i64
+    requires { SFits w64 (so_far +ℤ difference) }
+    ensures { result ≡ so_far +ℤ difference }
 {
-    total + difference
+    so_far + difference
 }
 
 // Puts what each risk is billed above or below guaranteed cost into a buffer with room; their sum. It asks nothing and stores
@@ -60,14 +60,14 @@ fn put_differences(terms: Terms, losses: RiskLosses<'_>, cost: u32, out: &mut [i
     ensures put { out.new
         ≡ filled (differences_of cost (bills_of terms (losses_of losses.entry.each.now))) out.old }
 {
-    let mut total: i64 = 0;
+    let mut so_far: i64 = 0;
     for (i, risk) in losses.each.iter().enumerate() {
         let bill = terms.bill_of(risk.limited);
         let difference = difference_of(bill, cost);
         out[i] = difference;
-        total = sum_of(total, difference);
+        so_far = sum_of(so_far, difference);
     }
-    total
+    so_far
 }
 
 // Question 13 of both buffers: 4 × n bytes of premiums and n differences are enough.

@@ -7,7 +7,7 @@ use mathlib.Core.List.{List, [], ◌∷◌, ◌++◌}
 use Prim.Native.Nat.{ℕ, zero, suc, ◌+◌, ◌≤◌}
 use native.Mathlib.Omega.{arith}
 use Rattle.plan.specs.Arithmetic.{sum, sum_of}
-use Rattle.plan.specs.Claim.{Claim, claim, joined, dollars}
+use Rattle.plan.specs.Claim.{Claim, claim, joins, dollars}
 use Rattle.plan.specs.Accidents.{accidents_from, accidents_of, opens, all_open}
 
 -- ---- the last accident, and those before it
@@ -48,26 +48,26 @@ module _ (f : ℕ → ℕ) where
 
 -- ---- a claim more
 
-last-opens : (last : ℕ) (cs : List Claim) (c : Claim) → joined c ≡ 0 → last_from last (cs ++ c ∷ []) ≡ dollars c
+last-opens : (last : ℕ) (cs : List Claim) (c : Claim) → joins c ≡ 0 → last_from last (cs ++ c ∷ []) ≡ dollars c
 last-opens last [] (claim zero d) e = refl
 last-opens last [] (claim (suc j) d) e = absurd (omega arith)
 last-opens last (claim zero d ∷ cs) c e = last-opens d cs c e
 last-opens last (claim (suc j) d ∷ cs) c e = last-opens (last + d) cs c e
 
-last-joins : (last : ℕ) (cs : List Claim) (c : Claim) → 1 ≤ joined c → last_from last (cs ++ c ∷ []) ≡ last_from last cs + dollars c
+last-joins : (last : ℕ) (cs : List Claim) (c : Claim) → 1 ≤ joins c → last_from last (cs ++ c ∷ []) ≡ last_from last cs + dollars c
 last-joins last [] (claim zero d) e = absurd (omega arith)
 last-joins last [] (claim (suc j) d) e = refl
 last-joins last (claim zero d ∷ cs) c e = last-joins d cs c e
 last-joins last (claim (suc j) d ∷ cs) c e = last-joins (last + d) cs c e
 
-before-opens : (f : ℕ → ℕ) (last : ℕ) (cs : List Claim) (c : Claim) → joined c ≡ 0
+before-opens : (f : ℕ → ℕ) (last : ℕ) (cs : List Claim) (c : Claim) → joins c ≡ 0
     → before_from f last (cs ++ c ∷ []) ≡ before_from f last cs + f (last_from last cs)
 before-opens f last [] (claim zero d) e = omega arith
 before-opens f last [] (claim (suc j) d) e = absurd (omega arith)
 before-opens f last (claim zero d ∷ cs) c e = omega (arith, before-opens f d cs c e)
 before-opens f last (claim (suc j) d ∷ cs) c e = before-opens f (last + d) cs c e
 
-before-joins : (f : ℕ → ℕ) (last : ℕ) (cs : List Claim) (c : Claim) → 1 ≤ joined c
+before-joins : (f : ℕ → ℕ) (last : ℕ) (cs : List Claim) (c : Claim) → 1 ≤ joins c
     → before_from f last (cs ++ c ∷ []) ≡ before_from f last cs
 before-joins f last [] (claim zero d) e = absurd (omega arith)
 before-joins f last [] (claim (suc j) d) e = refl
@@ -77,11 +77,11 @@ before-joins f last (claim (suc j) d ∷ cs) c e = before-joins f (last + d) cs 
 -- the law of a claim more: what it opens or joins
 pub record More (f : ℕ → ℕ) (cs : List Claim) (c : Claim) : Type 0 where
   -- bit 0: the accident before it is closed, and its dollars are the last
-  pub opened_last : joined c ≡ 0 → last_of (cs ++ c ∷ []) ≡ dollars c
-  pub opened_before : joined c ≡ 0 → before_last f (cs ++ c ∷ []) ≡ before_last f cs + f (last_of cs)
+  pub opened_last : joins c ≡ 0 → last_of (cs ++ c ∷ []) ≡ dollars c
+  pub opened_before : joins c ≡ 0 → before_last f (cs ++ c ∷ []) ≡ before_last f cs + f (last_of cs)
   -- bit 1: it adds to the last
-  pub joined_last : 1 ≤ joined c → last_of (cs ++ c ∷ []) ≡ last_of cs + dollars c
-  pub joined_before : 1 ≤ joined c → before_last f (cs ++ c ∷ []) ≡ before_last f cs
+  pub joined_last : 1 ≤ joins c → last_of (cs ++ c ∷ []) ≡ last_of cs + dollars c
+  pub joined_before : 1 ≤ joins c → before_last f (cs ++ c ∷ []) ≡ before_last f cs
 
 pub one_more : (f : ℕ → ℕ) (cs : List Claim) (c : Claim) → More f cs c
 one_more f cs c = record {

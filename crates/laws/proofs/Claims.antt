@@ -14,7 +14,7 @@ use lib.Pow.{high, low}
 use Rattle.plan.specs.Sizes.{largest_claim, most_claim_width}
 use Rattle.plan.specs.Field.{field, Slot, total_width, Laid, Fitting, fits, all_fit}
 use Rattle.plan.specs.Header.{edition_of}
-use Rattle.plan.specs.Claim.{Claim, claim, joined, dollars, joined_width, dollars_width, claim_width, claim_at, past_claim, claims_from}
+use Rattle.plan.specs.Claim.{Claim, claim, joins, dollars, joined_width, dollars_width, claim_width, claim_at, past_claim, claims_from}
 use Rattle.plan.specs.Claim.{past_claims, slots_of_claim, slots_of_claims, claims_of}
 use Rattle.laws.proofs.Tests.{both, and_yes}
 use Rattle.laws.proofs.Fields.{field_lt, field_below, field-none, field-split}
@@ -44,7 +44,7 @@ run-le edition k = mul-le-mul_right k (width-le edition)
 
 -- ---- one claim
 
-pub joined_at : (s : List ℕ) (at : ℕ) → joined (claim_at s at) ≡ field s at (joined_width (edition_of s))
+pub joined_at : (s : List ℕ) (at : ℕ) → joins (claim_at s at) ≡ field s at (joined_width (edition_of s))
 unfolding claim_at
 joined_at s at = refl
 
@@ -55,11 +55,11 @@ dollars-at s at = refl
 pub dollars-le : (s : List ℕ) (at : ℕ) → dollars (claim_at s at) ≤ largest_claim
 dollars-le s at = omega (arith, dollars-at s at, field_lt s (at + joined_width (edition_of s)) dollars_width)
 
-pub joined-le : (s : List ℕ) (at : ℕ) → joined (claim_at s at) ≤ 1
+pub joined-le : (s : List ℕ) (at : ℕ) → joins (claim_at s at) ≤ 1
 joined-le s at = omega (arith, joined_at s at, field_below s at (joined_width (edition_of s)) 1 (joined-width-le (edition_of s)))
 
 -- both fields taken as one
-pub joined-of-both : (s : List ℕ) (at : ℕ) → field s at (claim_width (edition_of s)) / 2 ^ dollars_width ≡ joined (claim_at s at)
+pub joined-of-both : (s : List ℕ) (at : ℕ) → field s at (claim_width (edition_of s)) / 2 ^ dollars_width ≡ joins (claim_at s at)
 unfolding claim_at claim_width
 joined-of-both s at =
     let bit = joined_width (edition_of s) in
@@ -74,7 +74,7 @@ dollars-of-both s at =
     ∙ low (field s at bit) dollars_width (field_lt s (at + bit) dollars_width)
 
 -- a bit's field of no bits is 0
-pub not-joined : (s : List ℕ) (at : ℕ) → joined_width (edition_of s) ≡ 0 → joined (claim_at s at) ≡ 0
+pub not-joined : (s : List ℕ) (at : ℕ) → joined_width (edition_of s) ≡ 0 → joins (claim_at s at) ≡ 0
 not-joined s at e = joined_at s at ∙ ap (field s at) e ∙ field-none s at
 
 pub past-claim : (s : List ℕ) (at : ℕ) → past_claim s at ≡ at + claim_width (edition_of s)
@@ -185,7 +185,7 @@ module _ (s : List ℕ) where
 -- ---- claims as a list of bits and a list of dollars
 
 -- a claim is its bit and its dollars
-pub claims-of-parts : (claims : List Claim) → claims_of (map joined claims) (map dollars claims) ≡ claims
+pub claims-of-parts : (claims : List Claim) → claims_of (map joins claims) (map dollars claims) ≡ claims
 claims-of-parts [] = refl
 claims-of-parts (claim j d ∷ cs) = ap (λ (l : List Claim). claim j d ∷ l) (claims-of-parts cs)
 
@@ -201,7 +201,7 @@ dollars-of [] (d ∷ ds) e = absurd (omega arith)
 dollars-of (j ∷ js) [] e = refl
 dollars-of (j ∷ js) (d ∷ ds) e = ap (λ (l : List ℕ). d ∷ l) (dollars-of js ds (omega arith))
 
-pub joined_of : (js ds : List ℕ) → length js ≡ length ds → map joined (claims_of js ds) ≡ js
+pub joined_of : (js ds : List ℕ) → length js ≡ length ds → map joins (claims_of js ds) ≡ js
 joined_of [] ds e = refl
 joined_of (j ∷ js) [] e = absurd (omega arith)
 joined_of (j ∷ js) (d ∷ ds) e = ap (λ (l : List ℕ). j ∷ l) (joined_of js ds (omega arith))
@@ -246,7 +246,7 @@ unfolding claim_at
 dollars-fit s at zero = refl
 dollars-fit s at (suc k) = and_yes (lt-ltb _ _ (field_lt s _ dollars_width)) (dollars-fit s (past_claim s at) k)
 
-pub joined_fit : (s : List ℕ) (at k : ℕ) → all_fit (joined_width (edition_of s)) (map joined (claims_from s at k)) ≡ true
+pub joined_fit : (s : List ℕ) (at k : ℕ) → all_fit (joined_width (edition_of s)) (map joins (claims_from s at k)) ≡ true
 unfolding claim_at
 joined_fit s at zero = refl
 joined_fit s at (suc k) =

@@ -193,7 +193,7 @@ module _ (s : List ℕ) (ls : List Layer) (old_premiums : List ℕ) (old_differe
           sum_least = (sum-between s ls _ _ c gave).0;
           sum_most = (sum-between s ls _ _ c gave).1;
           summed = ap (λ (x : Comparison). x.difference) (sym all) ∙ ap (sum_z (λ z. z)) (sym first);
-          total =
+          billed_less_cost =
               ap (λ (x : Comparison). x.difference) (sym all)
               ∙ differences-total cost bills
               ∙ ap (λ (n : ℕ). pos (sum bills) -ℤ pos (n * cost)) (length-map rs (billed_premium h rs))

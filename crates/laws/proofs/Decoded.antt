@@ -8,7 +8,7 @@ use lib.ListN.{length, length-map}
 use Rattle.plan.specs.Arithmetic.{sum}
 use Rattle.plan.specs.Field.{bit, Slot, total_width, Laid}
 use Rattle.plan.specs.Header.{Header, header_of, header_bits, edition_of, risk_count, value_of, spare_field, header_slots}
-use Rattle.plan.specs.Claim.{Claim, joined, dollars}
+use Rattle.plan.specs.Claim.{Claim, joins, dollars}
 use Rattle.plan.specs.Risk.{counts_from, risks_from, past_risks, all_claims, slots_of_risks}
 use Rattle.plan.specs.File.{Group, counts_of, claims_in, end_of, group_of, claims_given, file_slots}
 use Rattle.laws.proofs.Written.{width-append, laid-append, laid-first, laid-second, laid_same}
@@ -87,7 +87,7 @@ pub record FileTaken (s : List ℕ) (g : Group) : Type 0 where
   pub counts_are : counts_of s ≡ g.counts
   pub all_are : claims_in s ≡ claims_given g
   pub claims_are : map dollars (claims_in s) ≡ g.claims
-  pub joined_are : map joined (claims_in s) ≡ g.joined
+  pub joined_are : map joins (claims_in s) ≡ g.joined
   pub ends : end_of s ≡ total_width (file_slots g)
 
 -- counts that add to the number of claims, and a bit for each
@@ -114,7 +114,7 @@ laid-file s g m l =
       counts_are = ap (counts_from s header_bits) n ∙ r.counts_are;
       all_are = all;
       claims_are = ap (map dollars) all ∙ dollars-of g.joined g.claims m.bits;
-      joined_are = ap (map joined) all ∙ joined_of g.joined g.claims m.bits;
+      joined_are = ap (map joins) all ∙ joined_of g.joined g.claims m.bits;
       ends =
           ap (past_risks s header_bits) n
           ∙ r.ends
@@ -128,7 +128,7 @@ laid-file s g m l =
 pub own-matching : (s : List ℕ) → Matching (group_of s)
 own-matching s = record {
   adds = counts-claims s header_bits (risk_count s) ∙ sym (length-map (claims_in s) dollars);
-  bits = length-map (claims_in s) joined ∙ sym (length-map (claims_in s) dollars);
+  bits = length-map (claims_in s) joins ∙ sym (length-map (claims_in s) dollars);
 }
 
 pub record SameTaken (s t : List ℕ) : Type 0 where

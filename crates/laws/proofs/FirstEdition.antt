@@ -8,7 +8,7 @@ use native.Mathlib.Omega.{arith}
 use borrow.Author.Tests.{eq-eqb}
 use Rattle.plan.specs.Arithmetic.{sum_of}
 use Rattle.plan.specs.Header.{edition_of, header_bits, risk_count}
-use Rattle.plan.specs.Claim.{Claim, claim, joined, dollars, joined_width, past_claim, claims_from}
+use Rattle.plan.specs.Claim.{Claim, claim, joins, dollars, joined_width, past_claim, claims_from}
 use Rattle.plan.specs.Risk.{count_at, first_claim, claims_at, past_risk, risks_from, all_claims}
 use Rattle.plan.specs.File.{claims_in, risks_of}
 use Rattle.plan.specs.Accidents.{accidents_from, accidents_of, opens, all_open}
@@ -19,7 +19,7 @@ use Rattle.laws.proofs.Claims.{not-joined}
 
 -- the claims' bits add to nothing, so each is 0
 abbrev pub NoBit : List Claim → Type 0
-NoBit cs = sum_of joined cs ≡ 0
+NoBit cs = sum_of joins cs ≡ 0
 
 -- ---- claims without a bit
 
@@ -57,7 +57,7 @@ module _ (s : List ℕ) (one : edition_of s ≡ 1) where
   no_bits at (suc n) =
       omega (
         arith,
-        sum-append joined (claims_at s at) (all_claims (risks_from s (past_risk s at) n)),
+        sum-append joins (claims_at s at) (all_claims (risks_from s (past_risk s at) n)),
         no-bit (first_claim at) (count_at s at),
         no_bits (past_risk s at) n,
       )

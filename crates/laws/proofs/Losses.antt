@@ -9,7 +9,7 @@ use lib.ListN.{length, get_or, take, length-map}
 use Rattle.plan.specs.Arithmetic.{sum}
 use Rattle.plan.specs.Sizes.{largest_claim, most_risk_losses}
 use Rattle.plan.specs.Header.{header_of, header_bits, risk_count}
-use Rattle.plan.specs.Claim.{Claim, joined, dollars, claim_at, past_claim, claims_from, past_claims}
+use Rattle.plan.specs.Claim.{Claim, joins, dollars, claim_at, past_claim, claims_from, past_claims}
 use Rattle.plan.specs.Risk.{count_at, first_claim, claims_at, past_risk, risks_from, past_risks}
 use Rattle.plan.specs.Accidents.{accidents_of}
 use Rattle.plan.specs.Losses.{Losses, limited_to, total_of, limited_of, losses_of, SL, SA, losses_from, losses_in, losses_so_far}
@@ -87,24 +87,24 @@ module _ (s : List ℕ) (at k : ℕ) where
     law = one_more (limited_to limit) first claim_after
 
     -- a claim whose bit is 0 closes the last accident and opens one
-    pub last-opened : joined claim_after ≡ 0 → last_of (claims_from s at (k + 1)) ≡ dollars claim_after
+    pub last-opened : joins claim_after ≡ 0 → last_of (claims_from s at (k + 1)) ≡ dollars claim_after
     last-opened e = ap last_of (claims-more s at k) ∙ law.opened_last e
 
-    pub before-opened : joined claim_after ≡ 0
+    pub before-opened : joins claim_after ≡ 0
         → before_limited limit (claims_from s at (k + 1))
         ≡ before_limited limit (claims_from s at k) + limited_to limit (last_of (claims_from s at k))
     before-opened e = ap (before_limited limit) (claims-more s at k) ∙ law.opened_before e
 
     -- one whose bit is 1 adds to the last
-    pub last-joined : 1 ≤ joined claim_after → last_of (claims_from s at (k + 1)) ≡ last_of (claims_from s at k) + dollars claim_after
+    pub last-joined : 1 ≤ joins claim_after → last_of (claims_from s at (k + 1)) ≡ last_of (claims_from s at k) + dollars claim_after
     last-joined e = ap last_of (claims-more s at k) ∙ law.joined_last e
 
-    pub before-joined : 1 ≤ joined claim_after
+    pub before-joined : 1 ≤ joins claim_after
         → before_limited limit (claims_from s at (k + 1)) ≡ before_limited limit (claims_from s at k)
     before-joined e = ap (before_limited limit) (claims-more s at k) ∙ law.joined_before e
 
     -- where it is an accident of its own, A takes what the limit leaves of it
-    pub limited-so-far : joined claim_after ≡ 0
+    pub limited-so-far : joins claim_after ≡ 0
         → limited_of limit (claims_from s at (k + 1)) ≡ limited_of limit (claims_from s at k) + limited_to limit (dollars claim_after)
     limited-so-far e =
         limited-parts limit more

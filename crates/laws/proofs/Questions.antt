@@ -44,12 +44,12 @@ stops k qs e = ap (λ (x : Bool). first_no (ask k x ∷ qs)) e
 
 -- the gate's No, else the first No of the rest, whatever the rest is
 pub after-gate : (gate rest : List Question) {v : Verdict} → first_no gate ≡ v → first_no (gate ++ rest) ≡ or_else v (first_no rest)
-after-gate gate rest e = joined gate ∙ ap (λ (v : Verdict). or_else v (first_no rest)) e
+after-gate gate rest e = both_lists gate ∙ ap (λ (v : Verdict). or_else v (first_no rest)) e
   where
-    joined : (qs : List Question) → first_no (qs ++ rest) ≡ or_else (first_no qs) (first_no rest)
-    joined [] = refl
-    joined (ask k true ∷ qs) = joined qs
-    joined (ask k false ∷ qs) = refl
+    both_lists : (qs : List Question) → first_no (qs ++ rest) ≡ or_else (first_no qs) (first_no rest)
+    both_lists [] = refl
+    both_lists (ask k true ∷ qs) = both_lists qs
+    both_lists (ask k false ∷ qs) = refl
 
 -- what passes all passes the gate and the rest
 pub passed-both : (gate rest : List Question) → first_no (gate ++ rest) ≡ passed → (first_no gate ≡ passed) × (first_no rest ≡ passed)

@@ -13,7 +13,7 @@ use Rattle.plan.specs.Arithmetic.{sum}
 use Rattle.plan.specs.Sizes.{most_claims, most_risk_bits}
 use Rattle.plan.specs.Field.{Slot, slot, slots, total_width, Laid, Fitting, all_fit}
 use Rattle.plan.specs.Header.{edition_of}
-use Rattle.plan.specs.Claim.{Claim, joined, dollars, joined_width, dollars_width, claim_width, claims_from}
+use Rattle.plan.specs.Claim.{Claim, joins, dollars, joined_width, dollars_width, claim_width, claims_from}
 use Rattle.plan.specs.Claim.{slots_of_claims, claims_of}
 use Rattle.plan.specs.Risk.{count_width, count_at, first_claim, claims_at, past_risk, counts_from, risks_from, past_risks, all_claims}
 use Rattle.plan.specs.Risk.{divided, slots_of_risks}
@@ -260,8 +260,8 @@ parts-fit part w s fit at (suc n) =
 pub all-dollars-fit : (s : List ℕ) (at n : ℕ) → all_fit dollars_width (map dollars (all_claims (risks_from s at n))) ≡ true
 all-dollars-fit s = parts-fit dollars dollars_width s (dollars-fit s)
 
-pub all-joined-fit : (s : List ℕ) (at n : ℕ) → all_fit (joined_width (edition_of s)) (map joined (all_claims (risks_from s at n))) ≡ true
-all-joined-fit s = parts-fit joined (joined_width (edition_of s)) s (joined_fit s)
+pub all-joined-fit : (s : List ℕ) (at n : ℕ) → all_fit (joined_width (edition_of s)) (map joins (all_claims (risks_from s at n))) ≡ true
+all-joined-fit s = parts-fit joins (joined_width (edition_of s)) s (joined_fit s)
 
 -- counts of 6 bits add to 63 a risk at most
 pub counts-most : (counts : List ℕ) → Fitting (slots count_width counts) → sum counts ≤ most_claims * length counts

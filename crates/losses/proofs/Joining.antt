@@ -2,26 +2,38 @@
 -- last accident, and what the limit leaves of the accidents before it is added up. The law takes one claim more. Assumes nothing.
 use mathlib.Core.Path.{◌≡◌, refl, sym, ap, ap₂, ◌∙◌, subst}
 use mathlib.Core.List.{List, [], ◌∷◌, ◌++◌}
-use Prim.Native.Nat.{ℕ, zero, suc, ◌+◌, ◌-◌, ◌*◌, ◌≤◌, min}
+use Prim.Native.Nat.{ℕ, zero, suc, ◌+◌, ◌-◌, ◌*◌, ◌/◌, ◌^◌, ◌≤◌, min}
 use native.Mathlib.Omega.{arith}
 use lib.ListN.{length, length-append}
 use Rattle.std.proofs.Common.{append_assoc}
 use Rattle.plan.specs.Sizes.{largest_claim, most_claims, most_risk_losses}
-use Rattle.plan.specs.Claim.{Claim, joined, dollars}
+use Rattle.plan.specs.Claim.{Claim, joins, dollars, dollars_width}
 use Rattle.plan.specs.Losses.{limited_to, total_of, limited_of}
 use Rattle.laws.proofs.Sums.{sum-append}
 use Rattle.laws.proofs.Accidents.{last_of, last-le, More, one_more}
-use Rattle.laws.proofs.Losses.{most-limited, limited-parts, limited-total, limited-le}
-use Rattle.losses.specs.Accidents.{claim_in, AccidentRoom, AccidentAdded, PairRoom, PairAdded, AccidentsSummed}
+use Rattle.laws.proofs.Losses.{most-limited, limited-parts, limited-total}
+use Rattle.bits.specs.declared.Front.{Front}
+use Rattle.bits.specs.declared.Taken.{Taken}
+use Rattle.claims.specs.Claim.{claim_of, ClaimOn, second_on}
+use Rattle.claims.specs.declared.claim.FileClaim.{FileClaim}
+use Rattle.losses.specs.Accidents.{AccidentRoom, AccidentAdded, PairRoom, PairAdded, AccidentsSummed}
 use Rattle.losses.specs.declared.accidents.AccidentSums.{AccidentSums}
 
 pub joining-starts : (limit : ℕ) {r : AccidentSums} → r.total ≡ 0 → r.start ≡ 0 → r.limited ≡ 0
     → r.most ≡ limited_to limit most_risk_losses → AccidentsSummed [] limit r
 joining-starts limit t s l m = record { total = t; last = omega (arith, t, s); before = l; most = m; each = omega arith }
 
--- the dollars in a word are those of a claim
-pub in-word-le : (word low : ℕ) → dollars (claim_in word low) ≤ largest_claim
-in-word-le word low = omega arith
+-- by its number a claim is no larger than the largest
+pub claim-le : (c : FileClaim) → dollars (claim_of c) ≤ largest_claim
+claim-le c = omega arith
+
+-- by the bits of the front the claim behind the first is the second on it
+pub behind : {bits : ℕ} {f : Front} {p q : Taken FileClaim Front} → ClaimOn f bits p → ClaimOn p.next bits q → q.value ≡ second_on bits f
+behind {bits} x y = y.first ∙ (λ i. record { number = x.others i / 2 ^ (64 - (bits + dollars_width)) })
+
+-- a claim added by another name
+pub added-by : {r q : AccidentSums} {c d : FileClaim} → c ≡ d → AccidentAdded r (claim_of c) q → AccidentAdded r (claim_of d) q
+added-by {r} {q} e a = subst (λ (x : FileClaim). AccidentAdded r (claim_of x) q) e a
 
 module _ {cs : List Claim} {limit : ℕ} {r : AccidentSums} (w : AccidentsSummed cs limit r) where
   limited-le-total : r.limited ≤ r.total
@@ -55,7 +67,7 @@ module _ {cs : List Claim} {limit : ℕ} {r : AccidentSums} (w : AccidentsSummed
   -- one claim more
   pub joining-more : {c : Claim} {q : AccidentSums} → length cs ≤ most_claims → dollars c ≤ largest_claim → AccidentAdded r c q
       → AccidentsSummed (cs ++ c ∷ []) limit q
-  joining-more {c} {q} h small a = by_bit (joined c) refl
+  joining-more {c} {q} h small a = by_bit (joins c) refl
     where
       law : More (limited_to limit) cs c
       law = one_more (limited_to limit) cs c
@@ -70,7 +82,7 @@ module _ {cs : List Claim} {limit : ℕ} {r : AccidentSums} (w : AccidentsSummed
       each-more = omega (arith, more, w.each, small, length-append cs (c ∷ []))
 
       -- by its bit
-      by_bit : (j : ℕ) → joined c ≡ j → AccidentsSummed (cs ++ c ∷ []) limit q
+      by_bit : (j : ℕ) → joins c ≡ j → AccidentsSummed (cs ++ c ∷ []) limit q
       by_bit zero z = record {
         total = total-more;
         last = omega (arith, a.total, a.start_opened z, law.opened_last z);
@@ -79,7 +91,7 @@ module _ {cs : List Claim} {limit : ℕ} {r : AccidentSums} (w : AccidentsSummed
         each = each-more;
       }
       by_bit (suc j) z =
-          let one : 1 ≤ joined c = omega (arith, z) in
+          let one : 1 ≤ joins c = omega (arith, z) in
           record {
             total = total-more;
             last = omega (arith, a.total, a.start_joined one, w.last, law.joined_last one);

@@ -33,8 +33,8 @@ risk-most {s} {p} {limit} {r} x = record {
 
 module _ {s : List ℕ} {limit k : ℕ} {r : SumsSoFar} (w : SumsAre s limit k r) where
   -- their place and number of claims are those that the counts tell
-  counted : Counting s k r.next.at r.claims r.opened
-  counted = record { place = w.next; claims_are = w.claims; opened_is = w.opened }
+  counted : Counting s k r.next.at r.claims r.each_opens
+  counted = record { place = w.next; claims_are = w.claims; each_opens_are = w.each_opens }
 
   pub place-most : r.next.at ≤ header_bits + most_risk_bits * k
   place-most = counting-place counted
@@ -50,7 +50,7 @@ module _ {s : List ℕ} {limit k : ℕ} {r : SumsSoFar} (w : SumsAre s limit k r
 
   -- one risk more, as the code has it: taken where the first k end, and added to the sums
   pub risk-passed : {x : Risk} {q : SumsSoFar} → RiskIs s r.next.at limit x → q.risks ≡ k + 1
-      → q.claims ≡ r.claims + x.count → q.opened ≡ (r.opened && x.opened) → q.total ≡ r.total + x.losses.total
+      → q.claims ≡ r.claims + x.count → q.each_opens ≡ (r.each_opens && x.first_opens) → q.total ≡ r.total + x.losses.total
       → q.limited ≡ r.limited + x.losses.limited → q.next ≡ x.next
       → RiskPassed s limit k (record { losses = x.losses; sums = q })
   risk-passed {x} {q} i n c o l a p =
@@ -64,9 +64,9 @@ module _ {s : List ℕ} {limit k : ℕ} {r : SumsSoFar} (w : SumsAre s limit k r
         sums = record {
           risks = n;
           claims = c ∙ ap₂ ◌+◌ w.claims (i.count ∙ ap (count_at s) w.next) ∙ sym (counts-sum s k);
-          opened =
+          each_opens =
               o
-              ∙ ap₂ ◌&&◌ w.opened (i.opened ∙ ap (λ (p : ℕ). opens (claims_at s p)) w.next)
+              ∙ ap₂ ◌&&◌ w.each_opens (i.first_opens ∙ ap (λ (p : ℕ). opens (claims_at s p)) w.next)
               ∙ sym (open-sum s k);
           total = l ∙ ap₂ ◌+◌ w.total own-total ∙ sym (SL-so-far s limit header_bits k);
           limited = a ∙ ap₂ ◌+◌ w.limited own-limited ∙ sym (SA-so-far s limit header_bits k);

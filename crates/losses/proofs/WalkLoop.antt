@@ -12,9 +12,9 @@ use Rattle.losses.specs.declared.risks.SumsSoFar.{SumsSoFar}
 use Rattle.losses.specs.declared.risks.PassedRisk.{PassedRisk}
 
 -- the sums over no risks
-pub sums-start : (s : List ℕ) (limit : ℕ) {r : SumsSoFar} → r.risks ≡ 0 → r.claims ≡ 0 → r.opened ≡ true → r.total ≡ 0
+pub sums-start : (s : List ℕ) (limit : ℕ) {r : SumsSoFar} → r.risks ≡ 0 → r.claims ≡ 0 → r.each_opens ≡ true → r.total ≡ 0
     → r.limited ≡ 0 → r.next.at ≡ header_bits → SumsAre s limit 0 r
-sums-start s limit n c o l a p = record { risks = n; claims = c; opened = o; total = l; limited = a; next = p }
+sums-start s limit n c o l a p = record { risks = n; claims = c; each_opens = o; total = l; limited = a; next = p }
 
 -- as many losses are kept as risks are passed
 pub kept-length : (s : List ℕ) (limit : ℕ) {k : ℕ} (xs : List Losses) → losses_of xs ≡ losses_from s limit header_bits k

@@ -1,31 +1,22 @@
--- What adding a claim, or a pair of claims from a word, asks for and gives where an accident may have several.
-use Rattle.std.specs.Prelude.{◌≡◌, List, ℕ, ◌+◌, ◌-◌, ◌*◌, ◌^◌, ◌≤◌, ◌<◌, min, length}
-use Rattle.plan.specs.Sizes.{largest_claim, most_risk_losses}
-use Rattle.plan.specs.Claim.{Claim, joined, dollars}
+-- What adding a claim, or a pair of claims, asks for and gives where an accident may have several.
+use Rattle.std.specs.Prelude.{◌≡◌, List, ℕ, ◌+◌, ◌-◌, ◌*◌, ◌/◌, ◌%◌, ◌^◌, ◌≤◌, ◌<◌, min, length}
+use Rattle.plan.specs.Sizes.{largest_claim, most_risk_losses, most_claim_width}
+use Rattle.plan.specs.Claim.{Claim, joins, dollars}
 use Rattle.plan.specs.Losses.{limited_to, total_of}
 use Rattle.laws.proofs.Accidents.{last_of}
 use Rattle.laws.proofs.Losses.{before_limited}
-use Rattle.claims.specs.Sums as sums
+use Rattle.bits.specs.declared.Front.{Front}
 use Rattle.claims.specs.declared.run.ClaimRun.{ClaimRun}
 use Rattle.losses.specs.declared.accidents.AccidentSums.{AccidentSums}
 
--- ---- claims in a word
+-- the place behind both claims of a pair is a number of 64 bits
+abbrev pub PairReach : Front → Type 0
+PairReach f = f.place.at + 2 * most_claim_width < 2 ^ 64
 
--- the bits of a word below the first of two claims with bits on its front, and below the second
-abbrev pub first_low : ℕ
-first_low = 43
-
-abbrev pub second_low : ℕ
-second_low = 22
-
--- a claim with its bit in a word, above its `low` lowest bits: the dollars, and the bit above them
-abbrev pub claim_in : ℕ → ℕ → Claim
-claim_in w low = sums.claim_in 1 w low
-
--- both claims of a pair open an accident
-pub record PairOpens (w : ℕ) : Type 0 where
-  pub first : joined (claim_in w first_low) ≡ 0
-  pub second : joined (claim_in w second_low) ≡ 0
+-- neither bit of them is set
+pub record PairOpens (f : Front) : Type 0 where
+  pub first : f.bits / 2 ^ 63 % 2 ^ 1 ≡ 0
+  pub second : f.bits / 2 ^ 42 % 2 ^ 1 ≡ 0
 
 -- ---- the sums
 
@@ -36,16 +27,16 @@ pub record AccidentRoom (r : AccidentSums) : Type 0 where
 
 -- where the last accident begins with a claim of this bit more
 pub record StartsWith (r : AccidentSums) (bit start : ℕ) : Type 0 where
-  pub opened : bit ≡ 0 → start ≡ r.total
-  pub joined : 1 ≤ bit → start ≡ r.start
+  pub opens : bit ≡ 0 → start ≡ r.total
+  pub joins : 1 ≤ bit → start ≡ r.start
 
 -- a claim added: all of it to the total; where it opens an accident, what `most` leaves of the one that it ends
 pub record AccidentAdded (r : AccidentSums) (c : Claim) (q : AccidentSums) : Type 0 where
   pub total : q.total ≡ r.total + dollars c
-  pub start_opened : joined c ≡ 0 → q.start ≡ r.total
-  pub limited_opened : joined c ≡ 0 → q.limited ≡ r.limited + min (r.total - r.start) r.most
-  pub start_joined : 1 ≤ joined c → q.start ≡ r.start
-  pub limited_joined : 1 ≤ joined c → q.limited ≡ r.limited
+  pub start_opened : joins c ≡ 0 → q.start ≡ r.total
+  pub limited_opened : joins c ≡ 0 → q.limited ≡ r.limited + min (r.total - r.start) r.most
+  pub start_joined : 1 ≤ joins c → q.start ≡ r.start
+  pub limited_joined : 1 ≤ joins c → q.limited ≡ r.limited
   pub most : q.most ≡ r.most
 
 -- room for two claims, one after the other

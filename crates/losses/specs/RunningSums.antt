@@ -14,7 +14,7 @@ use Rattle.losses.specs.declared.risks.PassedRisk.{PassedRisk}
 pub record SumsAre (s : List ℕ) (limit k : ℕ) (r : SumsSoFar) : Type 0 where
   pub risks : r.risks ≡ k
   pub claims : r.claims ≡ sum (counts_from s header_bits k)
-  pub opened : r.opened ≡ all_open (risks_from s header_bits k)
+  pub each_opens : r.each_opens ≡ all_open (risks_from s header_bits k)
   pub total : r.total ≡ SL (losses_from s limit header_bits k)
   pub limited : r.limited ≡ SA (losses_from s limit header_bits k)
   pub next : r.next.at ≡ past_risks s header_bits k

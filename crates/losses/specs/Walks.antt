@@ -12,7 +12,7 @@ abbrev pub sums_of : Walked → SumsSoFar
 sums_of r = record {
   risks = length r.losses.of_risks.items;
   claims = r.counted.claims;
-  opened = r.counted.opened;
+  each_opens = r.counted.each_opens;
   total = r.losses.total;
   limited = r.losses.limited;
   next = r.counted.end;

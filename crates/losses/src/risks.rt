@@ -20,7 +20,7 @@ use group::edition::{ClaimFile, Edition};
 #[derive(Clone, Copy)]
 pub struct Risk {
     pub count: u32,
-    pub opened: bool,
+    pub first_opens: bool,
     pub losses: Losses,
     pub next: BitPlace,
 }
@@ -31,7 +31,7 @@ pub struct Risk {
 pub struct SumsSoFar {
     pub risks: u32,
     pub claims: u32,
-    pub opened: bool,
+    pub each_opens: bool,
     pub total: u64,
     pub limited: u64,
     pub next: BitPlace,
@@ -63,7 +63,7 @@ pub fn risk_at(file: &ClaimFile<'_>, place: BitPlace, limit: u32) -> Risk
     let run = claims_at(file, head.claims, limit);
     Risk {
         count: head.claims.count,
-        opened: head.opened,
+        first_opens: head.first_opens,
         losses: run.losses,
         next: run.next,
     }
@@ -80,7 +80,7 @@ pub fn pass_risk(file: &ClaimFile<'_>, sums: SumsSoFar, limit: u32) -> PassedRis
     let count = risk.count;
     let risks = sums.risks + 1;
     let claims = sums.claims + count;
-    let opened = sums.opened & risk.opened;
+    let each_opens = sums.each_opens & risk.first_opens;
     let total = sums.total + u64::from(risk.losses.total);
     let limited = sums.limited + u64::from(risk.losses.limited);
     let next = risk.next;
@@ -89,7 +89,7 @@ pub fn pass_risk(file: &ClaimFile<'_>, sums: SumsSoFar, limit: u32) -> PassedRis
         sums: SumsSoFar {
             risks,
             claims,
-            opened,
+            each_opens,
             total,
             limited,
             next,

@@ -1,13 +1,13 @@
 // The sums of edition 1, where each claim is its own accident: what a claim more does to them.
-ghost use Rattle.claims.specs.Claim.{front_dollars};
+ghost use Rattle.plan.specs.Claim.{dollars};
+ghost use Rattle.claims.specs.Claim.{claim_of};
 ghost use Rattle.losses.specs.Singles.{ClaimRoom, ClaimAdded, ClaimsSummed};
 
-use bits::BitPlace;
-use claims::claim::{LARGEST_CLAIM, dollars_ahead, limited_ahead};
+use bits::{BitPlace, Front};
+use claims::claim::{FileClaim, LARGEST_CLAIM, claim_on};
 use claims::run::{ClaimRun, limited_to};
 use claims::sums::Sums;
 use group::Losses;
-use group::widths::DOLLARS_WIDTH;
 
 // The sums of some claims of a risk, each an accident of its own: L and A of them. `most` is what the limit leaves of the largest claim.
 #[derive(Clone, Copy)]
@@ -18,13 +18,14 @@ pub struct ClaimSums {
 }
 
 impl ClaimSums {
-    // With one claim more, the one on the front of a word.
-    fn with_claim(self, word: u64) -> ClaimSums
+    // With one claim more.
+    fn with_claim(self, claim: FileClaim) -> ClaimSums
         requires { ClaimRoom self }
-        ensures { ClaimAdded self (front_dollars word) result }
+        ensures { ClaimAdded self (dollars (claim_of claim)) result }
     {
-        let total = self.total + dollars_ahead(word);
-        let limited = self.limited + limited_ahead(word, self.most);
+        let dollars = claim.dollars();
+        let total = self.total + dollars;
+        let limited = self.limited + dollars.min(self.most);
         ClaimSums {
             total,
             limited,
@@ -49,13 +50,15 @@ impl Sums for ClaimSums {
         }
     }
 
-    fn add_claim(self, word: u64) -> ClaimSums {
-        self.with_claim(word)
+    fn add_claim(self, claim: FileClaim) -> ClaimSums {
+        self.with_claim(claim)
     }
 
-    fn add_pair(self, word: u64) -> ClaimSums {
-        let one = self.with_claim(word);
-        one.with_claim(word << DOLLARS_WIDTH)
+    fn add_pair(self, pair: Front) -> ClaimSums {
+        let first = claim_on(pair, Self::BITS);
+        let second = claim_on(first.next, Self::BITS);
+        let one = self.with_claim(first.value);
+        one.with_claim(second.value)
     }
 
     fn ended(self, next: BitPlace) -> ClaimRun {

@@ -30,7 +30,7 @@ pub fn walk(file: &ClaimFile<'_>, place: BitPlace, risks: u32, limit: u32) -> Wa
     let mut sums = SumsSoFar {
         risks: 0,
         claims: 0,
-        opened: true,
+        each_opens: true,
         total: 0,
         limited: 0,
         next: place,
@@ -44,7 +44,7 @@ pub fn walk(file: &ClaimFile<'_>, place: BitPlace, risks: u32, limit: u32) -> Wa
         counted: Counted {
             end: sums.next,
             claims: sums.claims,
-            opened: sums.opened,
+            each_opens: sums.each_opens,
         },
         losses: GroupLosses {
             of_risks,

@@ -98,6 +98,6 @@ beside_case = by_fields (λ b. (
   b.sum_least,
   b.sum_most,
   b.summed,
-  b.total,
+  b.billed_less_cost,
   b.as_rated,
 ))

@@ -3,7 +3,7 @@
 -- in that risk'. 'Edition 1 is still read, each claim its own accident', since its bits are 0. A list is of one risk's claims: no
 -- accident crosses risks.
 use Rattle.std.specs.Prelude.{Bool, true, ◌&&◌, List, [], ◌∷◌, ℕ, zero, suc, ◌+◌, eqb}
-use Rattle.plan.specs.Claim.{Claim, claim, joined}
+use Rattle.plan.specs.Claim.{Claim, claim, joins}
 
 -- the sums of an accident that so far has `last` dollars, and of those after it, by the claims to come
 abbrev pub accidents_from : ℕ → List Claim → List ℕ
@@ -20,7 +20,7 @@ accidents_of (claim j d ∷ cs) = accidents_from d cs
 -- whether a risk's first claim has the bit 0; a risk without claims passes
 abbrev pub opens : List Claim → Bool
 opens [] = true
-opens (c ∷ cs) = eqb (joined c) 0
+opens (c ∷ cs) = eqb (joins c) 0
 
 -- whether every risk's has
 abbrev pub all_open : List (List Claim) → Bool

@@ -7,11 +7,11 @@ use Rattle.plan.specs.Header.{edition_of}
 
 -- a claim: its bit, and its dollars
 pub data Claim : Type 0 where
-  claim : (joined dollars : ℕ) → Claim
+  claim : (joins dollars : ℕ) → Claim
 
 -- '1 when the claim belongs to the same accident as the claim before it in that risk'
-abbrev pub joined : Claim → ℕ
-joined (claim j d) = j
+abbrev pub joins : Claim → ℕ
+joins (claim j d) = j
 
 abbrev pub dollars : Claim → ℕ
 dollars (claim j d) = d

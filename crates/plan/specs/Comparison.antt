@@ -124,7 +124,7 @@ pub record Beside (s : List ℕ) (f : NumbersGiven) (t : List ℕ) (u : List ℤ
   -- 'and their sum'
   pub summed : f.difference ≡ sum_z (λ z. z) (take (risk_count s) u)
   -- the sum of the differences is the sum billed − n × guaranteed cost
-  pub total : f.difference ≡ pos f.billed -ℤ pos (f.risks * f.guaranteed)
+  pub billed_less_cost : f.difference ≡ pos f.billed -ℤ pos (f.risks * f.guaranteed)
   -- 'Beside Rate's results': Rate, with any buffer that is long enough, gives the same n, M, Q, sum and premiums on the file
   pub as_rated : (room : ℕ) → 4 * risk_count s ≤ room
       → rate s room

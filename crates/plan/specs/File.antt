@@ -3,7 +3,7 @@
 use Rattle.std.specs.Prelude.{List, map, ◌++◌, ℕ, ◌-◌, ◌*◌, length}
 use Rattle.plan.specs.Field.{field, Slot, bytes_of}
 use Rattle.plan.specs.Header.{Header, header_bits, header_of, edition_of, risk_count, header_slots}
-use Rattle.plan.specs.Claim.{Claim, joined, dollars, claims_of}
+use Rattle.plan.specs.Claim.{Claim, joins, dollars, claims_of}
 use Rattle.plan.specs.Risk.{counts_from, risks_from, past_risks, all_claims, slots_of_risks}
 
 -- a group's values; n is the number of counts
@@ -49,7 +49,7 @@ group_of s = record {
   header = header_of s;
   counts = counts_of s;
   claims = map dollars (claims_in s);
-  joined = map joined (claims_in s);
+  joined = map joins (claims_in s);
 }
 
 -- ---- written

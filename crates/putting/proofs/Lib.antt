@@ -1,6 +1,4 @@
 -- Laws of a claim's two fields as one, of claims that are given, of the loops over pairs and over risks, and of the file's runs of fields.
-mod ByPairs
-mod AsOne
 mod Claims
 mod Run
 mod Risks

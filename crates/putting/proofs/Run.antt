@@ -1,10 +1,10 @@
--- A run of claims put by pairs: each claim is one number of its bit and its dollars, and these are put as the
--- module `pairs` says. Between two pairs fewer than eight bits are held.
+-- A run of claims put by pairs: each claim's bit and its dollars are put, and bytes of the bits held are stored. Between two pairs fewer
+-- than eight bits are held.
 use mathlib.Core.Path.{◌≡◌, refl, sym, ap, ap₂, ◌∙◌, subst}
 use mathlib.Core.List.{List, [], ◌∷◌}
-use Prim.Native.Nat.{ℕ, zero, suc, ◌+◌, ◌-◌, ◌*◌, ◌/◌, ◌%◌, ◌^◌, ◌≤◌, ◌<◌}
+use Prim.Native.Nat.{ℕ, zero, suc, ◌+◌, ◌*◌, ◌/◌, ◌%◌, ◌≤◌, ◌<◌}
 use native.Mathlib.Omega.{arith}
-use lib.ListN.{length, get_or, take, drop}
+use lib.ListN.{length, get_or, take, drop, drop_of_length-le}
 use lib.Seq.{drop-drop}
 use denote.Ref.{Bor}
 use Rattle.std.proofs.Common.{Some, None, Option, Iter}
@@ -17,14 +17,17 @@ use Rattle.std.specs.Iterator.{Yields}
 use Rattle.std.specs.Iterator.Adapters.{zip_first, zip_second}
 use Rattle.std.specs.Simd.{first_chunks}
 use Rattle.std.specs.Slice.Iter.{iter_rest}
-use Rattle.plan.specs.Sizes.{most_claim_width}
-use Rattle.plan.specs.Field.{slot, slots, Fitting}
-use Rattle.plan.specs.Claim.{joined_width, dollars_width, slots_of_claims, claims_of}
-use Rattle.bits.specs.Put.{Room, WholeBytes, Put}
+use Rattle.plan.specs.Field.{Slot, slot}
+use Rattle.plan.specs.Claim.{joined_width, dollars_width, slots_of_claim, slots_of_claims, claims_of}
+use Rattle.laws.proofs.Claims.{joined-width-le}
+use Rattle.laws.proofs.Rests.{rest_more}
+use Rattle.bits.specs.Put.{Room, Put}
+use Rattle.bits.specs.Begun.{RoomToStore, Stored}
 use Rattle.bits.specs.Runs.{Wrote}
-use Rattle.bits.proofs.Laws.{Putting, putting-as}
-use Rattle.putting.proofs.AsOne.{values, length-values, value-at, both-fit}
-use Rattle.putting.proofs.ByPairs.{Pairs, pair_fits, five-bytes, pairs-more, byte-room, pairs-byte, last-left, none_left}
+use Rattle.bits.specs.declared.begun.Begun.{Begun}
+use Rattle.bits.proofs.Laws.{putting-as, putting-ends}
+use Rattle.bits.proofs.Laws.{Holding, holding-more, room-to-store, holding-stored, room-to-end, holding-ends}
+use Rattle.putting.specs.ClaimPut.{RoomForClaim, ClaimPut}
 
 -- ---- the pairs of a list
 
@@ -85,137 +88,125 @@ module _ {js ds : List ℕ} {s : Zip (Iter (List ℕ)) (Iter (List ℕ))} (o : O
         e,
       )
 
--- a claim's bit and dollars fit
-module _ {js ds : List ℕ} {n : ℕ} {bits dollars : List ℕ} (t : Turn js ds n bits dollars) (e : length js ≡ length ds)
-    (edition : ℕ) (f : Fitting (slots_of_claims edition (claims_of js ds))) where
-  pub first-fit : (get_or bits 0 0 < 2 ^ joined_width edition) × (get_or dollars 0 0 < 2 ^ dollars_width)
-  first-fit =
-      rw (first-of js n t.bits_are, first-of ds n t.dollars_are) (both-fit edition js ds (2 * n) e (omega (arith, t.inside)) f)
+-- ---- the fields that are left
 
-  pub second-fit : (get_or bits 1 0 < 2 ^ joined_width edition) × (get_or dollars 1 0 < 2 ^ dollars_width)
-  second-fit =
-      rw (second-of js n t.bits_are, second-of ds n t.dollars_are)
-      (both-fit edition js ds (2 * n + 1) e (omega (arith, t.inside)) f)
+-- those of the claims from i on
+abbrev pub left_from : ℕ → List ℕ → List ℕ → ℕ → List Slot
+left_from edition js ds i = slots_of_claims edition (claims_of (drop i js) (drop i ds))
 
--- ---- at the loop's head, after n turns
+-- the next claim's are the first of them
+next-left : (edition : ℕ) (js ds : List ℕ) (i : ℕ) → length js ≡ length ds → i < length ds
+    → left_from edition js ds i ≡ slot (joined_width edition) (get_or js i 0) ∷ slot dollars_width (get_or ds i 0) ∷ left_from edition js ds (i + 1)
+unfolding slots_of_claim
+next-left edition js ds i e h =
+    ap₂ (λ (l m : List ℕ). slots_of_claims edition (claims_of l m)) (rest_more js i (omega (arith, e))) (rest_more ds i h)
 
-pub record Run (w : ℕ) (s : List ℕ) (at : ℕ) (js ds t : List ℕ) (bits byte held n : ℕ) : Type 0 where
-  pub least : dollars_width ≤ w
-  pub most : w ≤ most_claim_width
-  pub few : bits < 8
-  pub pairs : Pairs w s at (values js ds) t bits byte held (2 * n)
+none-left : (edition : ℕ) (js ds : List ℕ) (i : ℕ) → length js ≤ i → length ds ≤ i → left_from edition js ds i ≡ []
+none-left edition js ds i h l =
+    ap₂ (λ (x y : List ℕ). slots_of_claims edition (claims_of x y)) (drop_of_length-le js h) (drop_of_length-le ds l)
 
--- ---- in a turn, once the pair's five bytes are stored
+-- ---- what is left to be put, from claim i on, with fewer bits held than `most`
 
-pub record Stored (w : ℕ) (s : List ℕ) (at : ℕ) (js ds t : List ℕ) (bits byte held n : ℕ) : Type 0 where
-  pub least : dollars_width ≤ w
-  pub most : w ≤ most_claim_width
-  pub few : bits < 16
-  pub pairs : Pairs w s at (values js ds) t bits byte held (2 * n + 2)
+pub record Left (edition : ℕ) (s : List ℕ) (at : ℕ) (js ds t : List ℕ) (b : Begun) (most i : ℕ) : Type 0 where
+  pub few : b.bits < most
+  pub holding : Holding s at (slots_of_claims edition (claims_of js ds)) t b (left_from edition js ds i)
 
-module _ {w : ℕ} {s : List ℕ} {at : ℕ} {js ds t : List ℕ} {bits byte held n : ℕ}
-    (g : Stored w s at js ds t bits byte held n) where
-  pub goes_on : {m : ℕ} → m ≡ n + 1 → bits < 8 → Run w s at js ds t bits byte held m
-  goes_on turned few' = record {
-    least = g.least;
-    most = g.most;
-    few = few';
-    pairs = subst (Pairs w s at (values js ds) t bits byte held) (omega (arith, turned)) g.pairs;
-  }
+pub left-at : {edition : ℕ} {s : List ℕ} {at : ℕ} {js ds t : List ℕ} {b : Begun} {most i j : ℕ} → i ≡ j
+    → Left edition s at js ds t b most i → Left edition s at js ds t b most j
+left-at {edition} {s} {at} {js} {ds} {t} {b} {most} e g = subst (Left edition s at js ds t b most) e g
 
-  -- and a byte, where the bits held have one
-  module _ (low : ℕ) (full : bits ≡ 8 + low) where
-    pub room-of-byte : Room t (8 * byte) 8 (held / 2 ^ low)
-    room-of-byte = byte-room g.pairs low full
+module _ {edition : ℕ} {s : List ℕ} {at : ℕ} {js ds t : List ℕ} {b : Begun} {most i : ℕ}
+    (g : Left edition s at js ds t b most i) (e : length js ≡ length ds) where
+  -- ---- a claim put
 
-    pub goes-on-past : {m : ℕ} → m ≡ n + 1 → {u : List ℕ} {next : ℕ} → Put t (8 * byte) 8 (held / 2 ^ low) u
-        → next ≡ held / 2 ^ 0 % 2 ^ low → Run w s at js ds u low (byte + 1) next m
-    goes-on-past turned {u} {next} past is = record {
-      least = g.least;
-      most = g.most;
-      few = omega (arith, full, g.few);
-      pairs = subst (Pairs w s at (values js ds) u low (byte + 1) next) (omega (arith, turned)) (pairs-byte g.pairs low full past is);
+  module _ (h : i < length ds) {j d : ℕ} (is : (j ≡ get_or js i 0) × (d ≡ get_or ds i 0)) (narrow : most ≤ 42) where
+    next : Holding s at (slots_of_claims edition (claims_of js ds)) t b
+        (slot (joined_width edition) j ∷ slot dollars_width d ∷ left_from edition js ds (i + 1))
+    next =
+        putting-as g.holding
+        (ap (λ (l : List Slot). slot b.bits b.held ∷ l)
+        (next-left edition js ds i e h
+        ∙ ap₂ (λ (x y : ℕ). slot (joined_width edition) x ∷ slot dollars_width y ∷ left_from edition js ds (i + 1)) (sym is.0) (sym is.1)))
+
+    pub room-for-claim : RoomForClaim b edition j d
+    room-for-claim = record {
+      room = omega (arith, g.few, narrow, joined-width-le edition);
+      held = next.space.fitting.0;
+      bit = next.space.fitting.1.0;
+      fits = next.space.fitting.1.1.0;
     }
 
--- ---- a turn and the end
+    pub left-more : {r : Begun} → ClaimPut b edition j d r → Left edition s at js ds t r (most + 21) (i + 1)
+    left-more {r} x = record {
+      few = omega (arith, x.bit.bits, x.rest.bits, g.few, joined-width-le edition);
+      holding = holding-more x.between (holding-more b next x.bit) x.rest;
+    }
 
-module _ {w : ℕ} {s : List ℕ} {at : ℕ} {js ds t : List ℕ} {bits byte held n : ℕ}
-    (g : Run w s at js ds t bits byte held n) (e : length js ≡ length ds) where
-  module _ {two_bits two_dollars : List ℕ} (o : Turn js ds n two_bits two_dollars) where
-    more : 2 * n + 1 < length (values js ds)
-    more = omega (arith, o.inside, length-values js ds e)
+  -- ---- whole bytes stored
 
-    -- the two as one number each
-    module _ {x y : ℕ} (p : x ≡ get_or two_bits 0 0 * 2 ^ dollars_width + get_or two_dollars 0 0)
-        (q : y ≡ get_or two_bits 1 0 * 2 ^ dollars_width + get_or two_dollars 1 0) where
-      one : x ≡ get_or (values js ds) (2 * n) 0
-      one =
-          p ∙ ap₂ (λ (j d : ℕ). j * 2 ^ dollars_width + d) (first-of js n o.bits_are) (first-of ds n o.dollars_are)
-          ∙ value-at js ds (2 * n) e (omega (arith, o.inside))
+  pub room-for-bytes : (n : ℕ) → n ≤ 8 → 8 * n ≤ b.bits → most ≤ 64 → RoomToStore t b n
+  room-for-bytes n few whole narrow = room-to-store b g.holding n few whole (omega (arith, g.few, narrow))
 
-      two : y ≡ get_or (values js ds) (2 * n + 1) 0
-      two =
-          q ∙ ap₂ (λ (j d : ℕ). j * 2 ^ dollars_width + d) (second-of js n o.bits_are) (second-of ds n o.dollars_are)
-          ∙ value-at js ds (2 * n + 1) e (omega (arith, o.inside))
+  pub left-stored : {n : ℕ} {u : List ℕ} {r : Begun} (fewer : ℕ) → Stored t b n u r → most ≤ 8 * n + fewer
+      → Left edition s at js ds u r fewer i
+  left-stored fewer x h = record { few = omega (arith, g.few, x.bits, h); holding = holding-stored b g.holding x }
 
-      pub pair-fit : (held < 2 ^ 8) × (x < 2 ^ w) × (y < 2 ^ w)
-      pair-fit =
-          let f = pair_fits g.pairs more g.few in
-          (f.0, subst (λ (z : ℕ). z < 2 ^ w) (sym one) f.1, subst (λ (z : ℕ). z < 2 ^ w) (sym two) f.2)
+  -- with fewer bits
+  pub left-few : (fewer : ℕ) → b.bits < fewer → Left edition s at js ds t b fewer i
+  left-few fewer h = record { few = h; holding = g.holding }
 
-      -- the word, and how many bits are held next
-      module _ {word next_bits : ℕ} (is : word ≡ (held * 2 ^ w + x) * 2 ^ w + y) (widths : next_bits ≡ bits + 2 * w - 40) where
-        as_values : word
-            ≡ (held * 2 ^ w + get_or (values js ds) (2 * n) 0) * 2 ^ w + get_or (values js ds) (2 * n + 1) 0
-        as_values = is ∙ ap₂ (λ (a b : ℕ). (held * 2 ^ w + a) * 2 ^ w + b) one two
+  -- ---- the end
 
-        wide : bits + w + w ≡ 40 + next_bits
-        wide = omega (arith, widths, g.least)
+  pub room-for-end : most ≤ 33 → Room t (8 * b.byte) b.bits b.held
+  room-for-end h = room-to-end b g.holding (omega (arith, g.few, h))
 
-        pub five : WholeBytes t (8 * byte) 5 (word / 2 ^ next_bits)
-        five = five-bytes g.pairs more next_bits as_values wide
+  pub all-put : length ds ≤ i → {u : List ℕ} {q : ℕ} → (q ≡ 8 * b.byte + b.bits) × Put t (8 * b.byte) b.bits b.held u
+      → Wrote s at (slots_of_claims edition (claims_of js ds)) u q
+  all-put h p = putting-ends (putting-as (holding-ends b g.holding p) (none-left edition js ds i (omega (arith, e, h)) h))
 
-        pub stored : {u : List ℕ} {next : ℕ} → Put t (8 * byte) 40 (word / 2 ^ next_bits) u
-            → next ≡ word / 2 ^ 0 % 2 ^ next_bits → Stored w s at js ds u next_bits (byte + 5) next n
-        stored put held_next = record {
-          least = g.least;
-          most = g.most;
-          few = omega (arith, widths, g.few, g.most);
-          pairs = pairs-more g.pairs more next_bits as_values wide put held_next;
-        }
+-- ---- a pair put, after n others
 
-  -- at the end, once the bits held are put
+module _ {edition : ℕ} {s : List ℕ} {at : ℕ} {js ds t : List ℕ} {b : Begun} {n : ℕ} (g : Left edition s at js ds t b 8 (2 * n))
+    (e : length js ≡ length ds) {bits dollars : List ℕ} (o : Turn js ds n bits dollars) where
+  inside : 2 * n + 1 < length ds
+  inside = omega (arith, o.inside)
 
-  module _ (h : n ≡ length ds / 2) {u : List ℕ} {q : ℕ}
-      (p : (q ≡ 8 * byte + bits) × Put t (8 * byte) bits held u) where
-    fewer : length (values js ds) ≤ 2 * n + 1
-    fewer = omega (arith, h, length-values js ds e)
+  pub room-for-first : RoomForClaim b edition (get_or bits 0 0) (get_or dollars 0 0)
+  room-for-first = room-for-claim g e (omega (arith, inside)) (first-of js n o.bits_are, first-of ds n o.dollars_are) (omega arith)
 
-    pub all-put : length ds % 2 ≡ 0 → Wrote s at (slots w (values js ds)) u q
-    all-put l = none_left g.pairs fewer p (omega (arith, h, l, length-values js ds e))
+  module _ {q : Begun} (x : ClaimPut b edition (get_or bits 0 0) (get_or dollars 0 0) q) where
+    first-put : Left edition s at js ds t q 29 (2 * n + 1)
+    first-put = left-more g e (omega (arith, inside)) (first-of js n o.bits_are, first-of ds n o.dollars_are) (omega arith) x
 
-    -- with one claim left
-    module _ {last_bits last_dollars : List ℕ} (lb : last_bits ≡ drop (length js / 2 * 2) js)
-        (ld : last_dollars ≡ drop (length ds / 2 * 2) ds) (l : length ds % 2 ≡ 1) where
-      bit-of : get_or last_bits 0 0 ≡ get_or js (2 * n) 0
-      bit-of =
-          ap (λ (k : List ℕ). get_or k 0 0) lb ∙ get_or-drop (length js / 2 * 2) js 0 0
-          ∙ ap (λ (k : ℕ). get_or js k 0) (omega (arith, h, e))
+    pub room-for-second : RoomForClaim q edition (get_or bits 1 0) (get_or dollars 1 0)
+    room-for-second = room-for-claim first-put e inside (second-of js n o.bits_are, second-of ds n o.dollars_are) (omega arith)
 
-      dollars-of : get_or last_dollars 0 0 ≡ get_or ds (2 * n) 0
-      dollars-of =
-          ap (λ (k : List ℕ). get_or k 0 0) ld ∙ get_or-drop (length ds / 2 * 2) ds 0 0
-          ∙ ap (λ (k : ℕ). get_or ds k 0) (omega (arith, h))
+    module _ {r : Begun} (y : ClaimPut q edition (get_or bits 1 0) (get_or dollars 1 0) r) where
+      both-put : Left edition s at js ds t r 50 (2 * n + 1 + 1)
+      both-put = left-more first-put e inside (second-of js n o.bits_are, second-of ds n o.dollars_are) (omega arith) y
 
-      pub last-fit : (edition : ℕ) → Fitting (slots_of_claims edition (claims_of js ds))
-          → (get_or last_bits 0 0 < 2 ^ joined_width edition) × (get_or last_dollars 0 0 < 2 ^ dollars_width)
-      last-fit edition f = rw (bit-of, dollars-of) (both-fit edition js ds (2 * n) e (omega (arith, h, l)) f)
+      pub room-for-pair : RoomToStore t r 5
+      room-for-pair =
+          room-for-bytes both-put e 5 (omega arith) (omega (arith, x.bit.bits, x.rest.bits, y.bit.bits, y.rest.bits)) (omega arith)
 
-      pub one_left : {x : ℕ} → x ≡ get_or last_bits 0 0 * 2 ^ dollars_width + get_or last_dollars 0 0
-          → Putting s at (slots w (values js ds)) u q (slot w x ∷ [])
-      one_left is =
-          putting-as (last-left g.pairs fewer p (omega (arith, h, l, length-values js ds e)))
-          (ap (λ (z : ℕ). slot w z ∷ [])
-          (sym
-          (is ∙ ap₂ (λ (j d : ℕ). j * 2 ^ dollars_width + d) bit-of dollars-of
-          ∙ value-at js ds (2 * n) e (omega (arith, h, l)))))
+      pub pair-stored : {u : List ℕ} {z : Begun} → Stored t r 5 u z → {m : ℕ} → m ≡ n + 1 → Left edition s at js ds u z 10 (2 * m)
+      pair-stored w turned = left-at (omega (arith, turned)) (left-stored both-put e 10 w (omega arith))
+
+-- ---- the last claim put, where it has no other
+
+module _ {edition : ℕ} {s : List ℕ} {at : ℕ} {js ds t : List ℕ} {b : Begun} {n : ℕ} (g : Left edition s at js ds t b 8 (2 * n))
+    (e : length js ≡ length ds) (h : n ≡ length ds / 2) {bits dollars : List ℕ} (lb : bits ≡ drop (length js / 2 * 2) js)
+    (ld : dollars ≡ drop (length ds / 2 * 2) ds) (odd : length ds % 2 ≡ 1) where
+  last-is : (get_or bits 0 0 ≡ get_or js (2 * n) 0) × (get_or dollars 0 0 ≡ get_or ds (2 * n) 0)
+  last-is = (
+    ap (λ (k : List ℕ). get_or k 0 0) lb ∙ get_or-drop (length js / 2 * 2) js 0 0
+        ∙ ap (λ (k : ℕ). get_or js k 0) (omega (arith, h, e)),
+    ap (λ (k : List ℕ). get_or k 0 0) ld ∙ get_or-drop (length ds / 2 * 2) ds 0 0
+        ∙ ap (λ (k : ℕ). get_or ds k 0) (omega (arith, h)),
+  )
+
+  pub room-for-last : RoomForClaim b edition (get_or bits 0 0) (get_or dollars 0 0)
+  room-for-last = room-for-claim g e (omega (arith, h, odd)) last-is (omega arith)
+
+  pub last-put : {r : Begun} → ClaimPut b edition (get_or bits 0 0) (get_or dollars 0 0) r → Left edition s at js ds t r 29 (2 * n + 1)
+  last-put x = left-more g e (omega (arith, h, odd)) last-is (omega arith) x

@@ -15,7 +15,6 @@ ghost use Rattle.group.specs.Given.{group_is};
 ghost use Rattle.putting.specs.Putting.{first_slots, last_slots, slots_of_risk, Ready};
 
 pub mod given;
-pub mod pairs;
 pub mod runs;
 
 use crate::given::GivenClaims;

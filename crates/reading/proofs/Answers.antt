@@ -85,20 +85,20 @@ module _ (s : List ℕ) (old : Buffers) {o : Outline} {u : Unit} (x : OutlineIs 
     counts-fit : leb (risk_count s) (length old.counts) ≡ true
     counts-fit = le-leb _ _ (omega (arith, counts, x.risks))
 
-    pub few-claims : length old.claims < o.run.claims → ReadSays s old (Err Room) old
+    pub few-claims : length old.claims < o.layout.claims → ReadSays s old (Err Room) old
     few-claims h =
-        let few : length old.claims < sum (counts_of s) = omega (arith, h, x.run.claims) in
+        let few : length old.claims < sum (counts_of s) = omega (arith, h, x.layout.claims) in
         no_room (and-first-no _ (and-second-no counts-fit (lt-leb _ _ few)))
 
-    module _ (claims : o.run.claims ≤ length old.claims) where
+    module _ (claims : o.layout.claims ≤ length old.claims) where
       claims-fit : (leb (risk_count s) (length old.counts) && leb (sum (counts_of s)) (length old.claims)) ≡ true
-      claims-fit = and_yes counts-fit (le-leb _ _ (omega (arith, claims, x.run.claims)))
+      claims-fit = and_yes counts-fit (le-leb _ _ (omega (arith, claims, x.layout.claims)))
 
-      pub few-bits : length old.joined < o.run.claims → ReadSays s old (Err Room) old
+      pub few-bits : length old.joined < o.layout.claims → ReadSays s old (Err Room) old
       few-bits h =
-          let few : length old.joined < sum (counts_of s) = omega (arith, h, x.run.claims) in no_room (and-second-no claims-fit (lt-leb _ _ few))
+          let few : length old.joined < sum (counts_of s) = omega (arith, h, x.layout.claims) in no_room (and-second-no claims-fit (lt-leb _ _ few))
 
-      module _ (bits : o.run.claims ≤ length old.joined) {t : List ℕ} (same : t ≡ s) where
+      module _ (bits : o.layout.claims ≤ length old.joined) {t : List ℕ} (same : t ≡ s) where
         -- the entries for the counts
         abbrev n : ℕ
         n = length (take o.risks old.counts)
@@ -106,26 +106,26 @@ module _ (s : List ℕ) (old : Buffers) {o : Outline} {u : Unit} (x : OutlineIs 
         all : n ≡ risk_count s
         all = length-take-le o.risks old.counts counts ∙ x.risks
 
-        in-all : sum (counts_from t o.run.first.at n) ≡ sum (counts_of s)
-        in-all i = sum (counts_from (same i) (x.run.first i) (all i))
+        in-all : sum (counts_from t o.layout.first.at n) ≡ sum (counts_of s)
+        in-all i = sum (counts_from (same i) (x.layout.first i) (all i))
 
-        pub risks-room : RisksRoom t o.run.first.at n (length old.claims) (length old.joined)
+        pub risks-room : RisksRoom t o.layout.first.at n (length old.claims) (length old.joined)
         risks-room = record {
-          place = omega (arith, x.run.first);
+          place = omega (arith, x.layout.first);
           few = omega (arith, all, risks-le s);
-          claims = omega (arith, claims, x.run.claims, in-all);
-          joined = omega (arith, bits, x.run.claims, in-all);
+          claims = omega (arith, claims, x.layout.claims, in-all);
+          joined = omega (arith, bits, x.layout.claims, in-all);
         }
 
-        pub read-says : {cs ds js : List ℕ} → cs ≡ counts_from t o.run.first.at n
-            → ds ≡ filled (map dollars (all_claims (risks_from t o.run.first.at n))) old.claims
-            → js ≡ filled (map bit (all_claims (risks_from t o.run.first.at n))) old.joined
-            → ReadSays s old (Ok (record { edition = o.run.edition; risks = o.risks; header = o.header })) (buffers (cs ++ drop o.risks old.counts) ds js)
+        pub read-says : {cs ds js : List ℕ} → cs ≡ counts_from t o.layout.first.at n
+            → ds ≡ filled (map dollars (all_claims (risks_from t o.layout.first.at n))) old.claims
+            → js ≡ filled (map bit (all_claims (risks_from t o.layout.first.at n))) old.joined
+            → ReadSays s old (Ok (record { edition = o.layout.edition; risks = o.risks; header = o.header })) (buffers (cs ++ drop o.risks old.counts) ds js)
         read-says c d j =
-            let fits : sum (counts_of s) ≤ length old.joined = omega (arith, bits, x.run.claims) in
+            let fits : sum (counts_of s) ≤ length old.joined = omega (arith, bits, x.layout.claims) in
             let count : o.risks ≡ length (counts_of s) = x.risks ∙ sym (length-counts s header_bits (risk_count s)) in
             given-says s old _ (verdict s old gate (and_yes claims-fit (le-leb _ _ fits)))
-            x.run.edition x.risks x.header
-            (ap₂ (λ (l : List ℕ) (k : ℕ). l ++ drop k old.counts) (c ∙ (λ i. counts_from (same i) (x.run.first i) (all i))) count)
-            (d ∙ (λ i. filled (map dollars (all_claims (risks_from (same i) (x.run.first i) (all i)))) old.claims))
-            (j ∙ (λ i. filled (map bit (all_claims (risks_from (same i) (x.run.first i) (all i)))) old.joined))
+            x.layout.edition x.risks x.header
+            (ap₂ (λ (l : List ℕ) (k : ℕ). l ++ drop k old.counts) (c ∙ (λ i. counts_from (same i) (x.layout.first i) (all i))) count)
+            (d ∙ (λ i. filled (map dollars (all_claims (risks_from (same i) (x.layout.first i) (all i)))) old.claims))
+            (j ∙ (λ i. filled (map bit (all_claims (risks_from (same i) (x.layout.first i) (all i)))) old.joined))

@@ -1,7 +1,7 @@
--- The two loops of Read. After i claims of a risk their dollars are stored one behind another, and their bits likewise, by one law over
--- the part of a claim; after i risks their counts, claims and bits fill the first entries of their buffers. Each law takes one claim, or
--- one risk, more. Assumes nothing.
-use mathlib.Core.Path.{◌≡◌, refl, sym, ap, ap₂, ◌∙◌, subst}
+-- The two loops of Read. After i claims of a risk their dollars are stored in their entries, and their bits likewise, by one law over
+-- the part of a claim, and the cursor has the others; after i risks their counts, claims and bits fill the first entries of their
+-- buffers. Each law takes one claim, or one risk, more. Assumes nothing.
+use mathlib.Core.Path.{◌≡◌, refl, sym, ap, ap₂, ◌∙◌}
 use mathlib.Core.List.{List, [], ◌∷◌, ◌++◌, map}
 use Rattle.std.proofs.lemmas.List.{append-nil}
 use Rattle.std.proofs.lemmas.Slice.{put_mid-paste}
@@ -10,20 +10,22 @@ use Prim.Native.Nat.{ℕ, ◌+◌, ◌-◌, ◌≤◌, ◌<◌}
 use native.Mathlib.Numerals.{add-one}
 use native.Mathlib.Nat.{zero-add}
 use native.Mathlib.Omega.{arith}
-use lib.ListN.{length, get_or, set, length-set, length-map, drop_of_length-le}
+use lib.ListN.{length, get_or, set, drop, length-set, length-map, drop_of_length-le}
 use lib.Seq.{paste, paste-zero, paste-suc}
+use Rattle.std.proofs.lemmas.List.{get_or-drop, drop-drop, drop-map}
 use Rattle.plan.specs.Arithmetic.{sum}
 use Rattle.plan.specs.Sizes.{most_file_bits}
-use Rattle.plan.specs.Claim.{Claim, dollars, claim_at, claims_from, past_claims}
-use Rattle.plan.specs.Risk.{count_width, count_at, first_claim, claims_at, counts_from, risks_from, past_risks, all_claims}
+use Rattle.plan.specs.Claim.{Claim, dollars}
+use Rattle.plan.specs.Risk.{count_width, count_at, claims_at, counts_from, risks_from, past_risk, past_risks, all_claims}
 use Rattle.plan.specs.Call.{filled}
 use Rattle.laws.proofs.Sums.{sum-append}
-use Rattle.laws.proofs.Claims.{length-claims, part_in}
 use Rattle.laws.proofs.Risks.{length-claims-at, length-counts, counts-claims, counts-more, past-risks-more, past-risks-le, sum-prefix}
 use Rattle.laws.proofs.Risks.{parts_more}
 use Rattle.laws.proofs.Filled.{filled_none, filled_more, filled-run}
-use Rattle.claims.specs.Counts.{HeadIs}
-use Rattle.claims.specs.declared.counts.RiskHead.{RiskHead}
+use Rattle.bits.specs.declared.Taken.{Taken}
+use Rattle.claims.proofs.Laws.{next-risk-own, next-risk-past}
+use Rattle.claims.specs.Cursor.{own_claims, past_own, NextRisk}
+use Rattle.claims.specs.declared.cursor.Cursor.{Cursor}
 use Rattle.reading.specs.Reading.{bit, RisksRoom}
 
 -- filled with as many entries as it has, a buffer is those
@@ -32,44 +34,48 @@ filled_all {A = A} new old e = ap (λ (l : List A). new ++ l) (drop_of_length-le
 
 -- ---- the claims of a risk
 
--- a part of each of k claims from `at` on: of the first i it is stored from entry `from` on
-pub record Copying (part : Claim → ℕ) (s : List ℕ) (at k from : ℕ) (old : List ℕ) (i : ℕ) (present : List ℕ) : Type 0 where
+-- of a list, of which the first i are done, the others are `ours`
+abbrev pub Rest : {A : Type 0} → List A → ℕ → List A → Type 0
+Rest all i ours = drop i all ≡ ours
+
+module _ (all : List Claim) (i : ℕ) {c : Claim} {rest : List Claim} (e : Rest all i (c ∷ rest)) where
+  pub rest-next : Rest all (i + 1) rest
+  rest-next = sym (drop-drop 1 i all) ∙ ap (drop 1) e
+
+  -- a part of the first of them is entry i
+  part-here : (part : Claim → ℕ) → get_or (map part all) i 0 ≡ part c
+  part-here part =
+      ap (λ (j : ℕ). get_or (map part all) j 0) (omega arith)
+      ∙ sym (get_or-drop i (map part all) 0 0)
+      ∙ ap (λ (l : List ℕ). get_or l 0 0) (drop-map part i all ∙ ap (map part) e)
+
+-- a part of each claim is stored in its entry, of the first i
+pub record Parts (part : Claim → ℕ) (all : List Claim) (old : List ℕ) (i : ℕ) (present : List ℕ) : Type 0 where
   pub same : length present ≡ length old
-  pub stored : present ≡ paste old from (map part (claims_from s at k)) i
+  pub stored : present ≡ paste old 0 (map part all) i
 
-pub copying-starts : (part : Claim → ℕ) (s : List ℕ) (at k from : ℕ) (old : List ℕ) → Copying part s at k from old 0 old
-copying-starts part s at k from old = record { same = refl; stored = paste-zero old from (map part (claims_from s at k)) }
+pub parts-start : (part : Claim → ℕ) (all : List Claim) (old : List ℕ) → Parts part all old 0 old
+parts-start part all old = record { same = refl; stored = paste-zero old 0 (map part all) }
 
-pub copying-more : {part : Claim → ℕ} {s : List ℕ} {at k from : ℕ} {old : List ℕ} {i : ℕ} {present : List ℕ}
-    → Copying part s at k from old i present → {x p : ℕ} → p ≡ past_claims s at i → x ≡ part (claim_at s p) → i < k → from + k ≤ length old
-    → Copying part s at k from old (i + 1) (set present (from + i) x)
-copying-more {part} {s} {at} {k} {from} {old} {i} {present} w {x} {p} place is h room =
-    let here : x ≡ get_or (map part (claims_from s at k)) i 0 = is ∙ ap (λ (q : ℕ). part (claim_at s q)) place ∙ sym (part_in part s at k i h) in
-    let all : length (map part (claims_from s at k)) ≡ k = length-map (claims_from s at k) part ∙ length-claims s at k in
-    record {
-      same = length-set present (from + i) x ∙ w.same;
-      stored =
-          ap₂ (λ (l : List ℕ) (v : ℕ). set l (from + i) v) w.stored here
-          ∙ paste-suc old from (map part (claims_from s at k)) i 0 (omega arith) (omega (arith, all))
-          ∙ ap (paste old from (map part (claims_from s at k))) (sym (add-one i));
-    }
-
-module _ (part : Claim → ℕ) (s : List ℕ) (at k : ℕ) (old : List ℕ) where
-  -- stored from the first entry on
-  abbrev pub Parts : ℕ → List ℕ → Type 0
-  Parts = Copying part s at k 0 old
-
-  pub parts-more : {i x p : ℕ} {present : List ℕ} → Parts i present → p ≡ past_claims s at i → x ≡ part (claim_at s p) → i < k → k ≡ length old
-      → Parts (i + 1) (set present i x)
-  parts-more {i} {x} {p} {present} w place is h room =
-      subst (λ (j : ℕ). Parts (i + 1) (set present j x)) (zero-add i) (copying-more w place is h (omega (arith, room)))
+module _ {part : Claim → ℕ} {all : List Claim} {old : List ℕ} {i : ℕ} {present : List ℕ} (w : Parts part all old i present) where
+  pub parts-more : {c : Claim} {rest : List Claim} {x : ℕ} → Rest all i (c ∷ rest) → x ≡ part c → i < length all → length all ≡ length old
+      → Parts part all old (i + 1) (set present i x)
+  parts-more {c} {rest} {x} e is h room =
+      record {
+        same = length-set present i x ∙ w.same;
+        stored =
+            ap₂ (λ (l : List ℕ) (v : ℕ). set l i v) w.stored (is ∙ sym (part-here all i e part))
+            ∙ ap (λ (j : ℕ). set (paste old 0 (map part all) i) j (get_or (map part all) i 0)) (sym (zero-add i))
+            ∙ paste-suc old 0 (map part all) i 0 (omega arith) (omega (arith, room, length-map all part))
+            ∙ ap (paste old 0 (map part all)) (sym (add-one i));
+      }
 
   -- all of as many as the buffer has entries
-  pub parts-all : {i : ℕ} {present : List ℕ} → Parts i present → i ≡ k → k ≡ length old → present ≡ map part (claims_from s at k)
-  parts-all {i} w e n =
-      let these = map part (claims_from s at k) in
-      let all : length these ≡ k = length-map (claims_from s at k) part ∙ length-claims s at k in
-      w.stored ∙ ap (paste old 0 these) e ∙ filled-run [] old these refl all ∙ filled_all these old (all ∙ n)
+  pub parts-all : i ≡ length all → length all ≡ length old → present ≡ map part all
+  parts-all e n =
+      let these = map part all in
+      let many : length these ≡ length all = length-map all part in
+      w.stored ∙ ap (paste old 0 these) e ∙ filled-run [] old these refl many ∙ filled_all these old (many ∙ n)
 
 -- ---- the risks of a file
 
@@ -115,46 +121,45 @@ module _ {s : List ℕ} {at : ℕ} {old_counts old_claims old_joined : List ℕ}
         ap (count_at s) w.place,
       )
 
-  -- one risk more, as the code has it: its head is the one at p
-  module _ {t : RiskHead} (x : HeadIs s p t) where
+  -- one risk more, as the code has it: its claims are taken from a cursor that stands at p
+  module _ {c : Cursor} {t : Taken ℕ Cursor} (here : c.place.at ≡ p) (x : NextRisk s c t) where
     abbrev b : ℕ
     b = past_risks s at i
 
-    abbrev k : ℕ
-    k = t.claims.count
+    place : c.place.at ≡ b
+    place = here ∙ w.place
 
-    count : k ≡ count_at s b
-    count = x.count ∙ ap (count_at s) w.place
+    count : t.value ≡ count_at s b
+    count = x.count ∙ ap (count_at s) place
 
-    first : t.claims.first.at ≡ first_claim b
-    first = x.first ∙ ap first_claim w.place
+    own : own_claims s t.next ≡ claims_at s b
+    own = next-risk-own x ∙ ap (claims_at s) place
 
-    pub claims-within : from + k ≤ length old_claims
-    claims-within = omega (arith, x.count, next-within, room.claims)
+    pub claims-within : from + t.value ≤ length old_claims
+    claims-within = omega (arith, x.count, ap (count_at s) here, next-within, room.claims)
 
-    pub joined-within : from + k ≤ length old_joined
-    joined-within = omega (arith, x.count, next-within, room.joined)
+    pub joined-within : from + t.value ≤ length old_joined
+    joined-within = omega (arith, x.count, ap (count_at s) here, next-within, room.joined)
 
     -- a part of its claims, stored behind those before
-    part-more : (part : Claim → ℕ) (old present : List ℕ) {own : List ℕ} → Entries part s at old i present
-        → own ≡ map part (claims_from s t.claims.first.at k) → Entries part s at old (i + 1) (put_mid from (from + k - from) present own)
-    part-more part old present {own} e stored =
+    part-more : (part : Claim → ℕ) (old present : List ℕ) {these : List ℕ} → Entries part s at old i present
+        → these ≡ map part (own_claims s t.next) → Entries part s at old (i + 1) (put_mid from (from + t.value - from) present these)
+    part-more part old present {these} e stored =
         let before = length-map (all_claims (risks_from s at i)) part ∙ sym (counts-claims s at i) in
         let behind = length-map (claims_at s b) part ∙ length-claims-at s b in
-        let these = map part (claims_from s t.claims.first.at k) in
-        let all : length these ≡ k = length-map (claims_from s t.claims.first.at k) part ∙ length-claims s t.claims.first.at k in
-        put_mid-paste from (from + k - from) present own these k stored (omega arith) (sym all)
-        ∙ (λ j. paste (e j) (w.entries j) (map part (claims_from s (first j) (count j))) (count j))
+        put_mid-paste from (from + t.value - from) present these (map part (claims_at s b)) t.value (stored ∙ ap (map part) own)
+        (omega arith) (count ∙ sym behind)
+        ∙ (λ j. paste (e j) (w.entries j) (map part (claims_at s b)) (count j))
         ∙ filled-run (map part (all_claims (risks_from s at i))) old (map part (claims_at s b)) before behind
         ∙ ap (λ (l : List ℕ). filled l old) (sym (parts_more part s at i))
 
     -- then that many claims, stored
-    pub storing-more : {q : ℕ} {claims' joined' : List ℕ} → q ≡ past_claims s t.claims.first.at k
-        → claims' ≡ map dollars (claims_from s t.claims.first.at k) → joined' ≡ map bit (claims_from s t.claims.first.at k)
-        → Storing s at old_counts old_claims old_joined (i + 1) q (from + k) (set counts i k)
-        (put_mid from (from + k - from) claims claims') (put_mid from (from + k - from) joined joined')
-    storing-more e c j = record {
-      place = e ∙ ap₂ (past_claims s) first count ∙ sym (past-risks-more s at i);
+    pub storing-more : {q : ℕ} {claims' joined' : List ℕ} → q ≡ past_own s t.next → claims' ≡ map dollars (own_claims s t.next)
+        → joined' ≡ map bit (own_claims s t.next)
+        → Storing s at old_counts old_claims old_joined (i + 1) q (from + t.value) (set counts i t.value)
+        (put_mid from (from + t.value - from) claims claims') (put_mid from (from + t.value - from) joined joined')
+    storing-more e l j = record {
+      place = e ∙ next-risk-past x ∙ ap (past_risk s) place ∙ sym (past-risks-more s at i);
       entries =
           ap₂ ◌+◌ w.entries count
           ∙ sym (ap sum (counts-more s at i) ∙ sum-append (λ x. x) (counts_from s at i) (count_at s b ∷ []) ∙ omega arith);
@@ -162,6 +167,6 @@ module _ {s : List ℕ} {at : ℕ} {old_counts old_claims old_joined : List ℕ}
           ap₂ (λ (l : List ℕ) (v : ℕ). set l i v) w.counts_are count
           ∙ filled_more (counts_from s at i) old_counts (count_at s b) (length-counts s at i) h
           ∙ ap (λ (l : List ℕ). filled l old_counts) (sym (counts-more s at i));
-      claims_are = part-more dollars old_claims claims w.claims_are c;
+      claims_are = part-more dollars old_claims claims w.claims_are l;
       joined_are = part-more bit old_joined joined w.joined_are j;
     }

@@ -2,9 +2,9 @@
 use Rattle.std.specs.Prelude.{List, ℕ, ◌≤◌, length, Result}
 use Rattle.plan.specs.Arithmetic.{sum}
 use Rattle.plan.specs.Sizes.{most_risks}
-use Rattle.plan.specs.Header as plan
+use Rattle.plan.specs.Header as header
 use Rattle.plan.specs.Claim.{Claim}
-use Rattle.plan.specs.Claim as claims
+use Rattle.plan.specs.Claim as claim
 use Rattle.plan.specs.Risk.{counts_from}
 use Rattle.plan.specs.File.{Group}
 pub use Rattle.plan.specs.Calls.{Buffers, read_with, read_buffers}
@@ -15,13 +15,13 @@ use Rattle.reading.specs.declared.ReadValues.{ReadValues}
 
 -- a claim's bit
 abbrev pub bit : Claim → ℕ
-bit = claims.joined
+bit = claim.joins
 
 -- what Read gives beside its buffers: the edition, n and the header values
 pub record ValuesGiven : Type 0 where
   pub edition : ℕ
   pub risks : ℕ
-  pub header : plan.Header
+  pub header : header.Header
 
 -- of a group: n is the number of counts
 abbrev pub values_given : Group → ValuesGiven
@@ -41,7 +41,7 @@ ReadSays s old r new = Says (read_with s old) values_given read_is r (read_buffe
 
 -- buffers with room for the claims and bits of the first n risks from the place `at` on, which is no later than the header's end
 pub record RisksRoom (s : List ℕ) (at n claims_room joined_room : ℕ) : Type 0 where
-  pub place : at ≤ plan.header_bits
+  pub place : at ≤ header.header_bits
   pub few : n ≤ most_risks
   pub claims : sum (counts_from s at n) ≤ claims_room
   pub joined : sum (counts_from s at n) ≤ joined_room

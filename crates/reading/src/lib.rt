@@ -4,14 +4,13 @@
 
 ghost use Rattle.std.specs.Prelude.{◌≡◌, map, length};
 ghost use Rattle.plan.specs.Call.{filled};
-ghost use Rattle.plan.specs.Claim.{dollars, claims_from, past_claims};
+ghost use Rattle.plan.specs.Claim.{dollars};
 ghost use Rattle.plan.specs.Risk.{counts_from, risks_from, all_claims};
+ghost use Rattle.claims.specs.Cursor.{own_claims, past_own};
 ghost use Rattle.reading.specs.Reading.{bit, buffers, RisksRoom, ReadSays};
 
 use bits::BitPlace;
-use claims::claim::claim_at;
-use claims::counts::head_at;
-use claims::span::ClaimSpan;
+use claims::cursor::Cursor;
 use group::edition::ClaimFile;
 use group::{Header, Refusal};
 use groupfile::opening::{Outline, open_outline};
@@ -25,25 +24,24 @@ pub struct ReadValues {
     pub header: Header,
 }
 
-// Claims into two buffers, the dollars and the bits, each of as many entries; the place after them. Of what a `zip` of two buffers
-// writes no proof knows anything, so the bits are stored by the entry's number.
+// The claims of a risk that are left into two buffers, the dollars and the bits, each of as many entries; the cursor behind them. Of what a
+// `zip` of two buffers writes no proof knows anything, so the bits are stored by the entry's number.
 fn read_claims(
     file: &ClaimFile<'_>,
-    span: ClaimSpan,
+    cursor: Cursor,
     claims: &mut [u32],
     joined: &mut [u8],
-) -> BitPlace
-    requires { (length claims.old ≡ span.count) × (length joined.old ≡ span.count) }
-    ensures placed { result.at ≡ past_claims file.now.bytes.now span.first.at span.count }
-    ensures claimed { claims.new ≡ map dollars (claims_from file.now.bytes.now span.first.at span.count) }
-    ensures joining { joined.new ≡ map bit (claims_from file.now.bytes.now span.first.at span.count) }
+) -> Cursor
+    requires { (length claims.old ≡ cursor.left) × (length joined.old ≡ cursor.left) }
+    ensures placed { result.place.at ≡ past_own file.now.bytes.now cursor }
+    ensures claimed { claims.new ≡ map dollars (own_claims file.now.bytes.now cursor) }
+    ensures joining { joined.new ≡ map bit (own_claims file.now.bytes.now cursor) }
 {
-    let reach = span.last_byte();
-    let mut next = span.first;
+    let mut next = cursor;
     for (i, dollars) in claims.iter_mut().enumerate() {
-        let claim = claim_at(file, next, reach);
-        *dollars = claim.dollars;
-        joined[i] = claim.joined as u8;
+        let claim = next.next_claim(file);
+        *dollars = claim.value.dollars();
+        joined[i] = claim.value.joins() as u8;
         next = claim.next;
     }
     next
@@ -66,13 +64,18 @@ fn read_risks(
     ensures joining { joined.new
         ≡ filled (map bit (all_claims (risks_from file.now.bytes.now place.at (length counts.old)))) joined.old }
 {
-    let mut next = place;
+    let mut next = Cursor::new(place);
     let mut from: usize = 0;
     for entry in counts {
-        let span = head_at(file, next).claims;
-        *entry = span.count as u8;
-        let past = from + span.count as usize;
-        next = read_claims(file, span, &mut claims[from..past], &mut joined[from..past]);
+        let risk = next.next_risk(file);
+        *entry = risk.value as u8;
+        let past = from + risk.value as usize;
+        next = read_claims(
+            file,
+            risk.next,
+            &mut claims[from..past],
+            &mut joined[from..past],
+        );
         from = past;
     }
 }
@@ -91,28 +94,28 @@ pub fn read(
         verdict,
         header,
         risks,
-        run,
+        layout,
     } = open_outline(file);
     verdict?;
     if counts.len() < risks as usize {
         return Err(Refusal::Room);
     }
-    if claims.len() < run.claims as usize {
+    if claims.len() < layout.claims as usize {
         return Err(Refusal::Room);
     }
-    if joined.len() < run.claims as usize {
+    if joined.len() < layout.claims as usize {
         return Err(Refusal::Room);
     }
-    let claim_file = ClaimFile::new(file, run.edition);
+    let claim_file = ClaimFile::new(file, layout.edition);
     read_risks(
         &claim_file,
-        run.first,
+        layout.first,
         &mut counts[..risks as usize],
         claims,
         joined,
     );
     Ok(ReadValues {
-        edition: run.edition,
+        edition: layout.edition,
         risks,
         header,
     })

@@ -170,14 +170,14 @@ pub extern "C" fn retro_guaranteed(
         Err(refusal) => refusal.into(),
         Ok(g) => {
             let rated = g.rated;
-            let total = g.difference;
+            let sum = g.difference;
             *risks = rated.risks;
             *basic = rated.basic;
             *excess = rated.excess;
             *billed = rated.billed;
             *discount = g.discount;
             *guaranteed = g.guaranteed;
-            *difference = total;
+            *difference = sum;
             0
         }
     }
@@ -227,7 +227,7 @@ pub extern "C" fn retro_plan(
         (Sold file.now maximum minimum trials made.new best.new short_of.new) }
     ensures unsold { IfRefused (plan_for file.now maximum minimum trials) (Unsold file.now maximum minimum) }
 {
-    match sold::plans::plan(file, maximum, minimum, trials) {
+    match sold::plans::plan_for(file, maximum, minimum, trials) {
         Err(refusal) => refusal.into(),
         Ok(p) => {
             *made = p.made;

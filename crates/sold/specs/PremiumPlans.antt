@@ -5,8 +5,8 @@ use Rattle.plan.specs.SoldOnPremiums.{Sold, Unsold}
 use Rattle.group.specs.Refusals.{number_of}
 use Rattle.group.specs.Values.{losses_of}
 use Rattle.group.specs.declared.Refusal.{Refusal}
-use Rattle.sold.specs.Totals.{reaches_by}
-use Rattle.sold.specs.declared.totals.Target.{Target}
+use Rattle.sold.specs.Premiums.{reaches_by}
+use Rattle.sold.specs.declared.premiums.Target.{Target}
 use Rattle.sold.specs.declared.plans.PlanFound.{PlanFound}
 
 -- whether a basic premium reaches

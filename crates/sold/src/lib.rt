@@ -3,4 +3,4 @@
 
 pub mod owed;
 pub mod plans;
-pub mod totals;
+pub mod premiums;

@@ -10,7 +10,7 @@ ghost use Rattle.group.specs.Says.{Says};
 ghost use Rattle.sold.specs.PremiumPlans.{reached_by, plan_is, SoldBy};
 
 use crate::owed::owed_of;
-use crate::totals::{BasicPremium, PlanTerms, Target};
+use crate::premiums::{BasicPremium, PlanTerms, Target};
 use gates::open_losses;
 use group::Refusal;
 use groupfile::opening::Opened;
@@ -63,7 +63,7 @@ fn search(target: &Target, trials: u32) -> Result<PlanFound, Refusal>
 }
 
 // A plan for a file of whatever bytes, with a maximum and a minimum premium of whatever dollars, by whatever number of trials.
-pub fn plan(file: &[u8], maximum: u32, minimum: u32, trials: u32) -> Result<PlanFound, Refusal>
+pub fn plan_for(file: &[u8], maximum: u32, minimum: u32, trials: u32) -> Result<PlanFound, Refusal>
     ensures says { Says (sold_on_premiums.plan_for file.now maximum minimum trials) (λ p. p) plan_is result [] }
     ensures sold { SoldBy result file.now maximum minimum trials }
 {

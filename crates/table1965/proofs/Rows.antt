@@ -10,20 +10,20 @@ use Rattle.table1965.specs.declared.matrix.TheConstants.{MATRIX}
 abbrev sevens : List (List ℤ) → Bool
 sevens rows = list_all (λ r. eqb (length r) 7) rows
 
-abbrev joined : List (List ℤ) → List ℤ
-joined rows = flat_map (λ r. r) rows
+abbrev end_to_end : List (List ℤ) → List ℤ
+end_to_end rows = flat_map (λ r. r) rows
 
 -- of rows of seven each, joined end to end, row i begins at i × 7
 row-at : (rows : List (List ℤ)) → sevens rows ≡ true → (i k : ℕ) → i < length rows → k < 7
-    → get_or (joined rows) (i * 7 + k) (pos 0) ≡ get_or (get_or rows i []) k (pos 0)
+    → get_or (end_to_end rows) (i * 7 + k) (pos 0) ≡ get_or (get_or rows i []) k (pos 0)
 row-at [] e i k h w = absurd (omega (arith, h))
 row-at (r ∷ rows) e zero k h w =
     let seven = eqb-true (length r) 7 (both (eqb (length r) 7) (sevens rows) e).0 in
-    ap (λ (n : ℕ). get_or (joined (r ∷ rows)) n (pos 0)) (zero-add k) ∙ get_or_append_left r (joined rows) (pos 0) k (omega (arith, seven))
+    ap (λ (n : ℕ). get_or (end_to_end (r ∷ rows)) n (pos 0)) (zero-add k) ∙ get_or_append_left r (end_to_end rows) (pos 0) k (omega (arith, seven))
 row-at (r ∷ rows) e (suc i) k h w =
     let b = both (eqb (length r) 7) (sevens rows) e in
-    get_or-append_right r (joined rows) 7 (suc i * 7 + k) (pos 0) (eqb-true (length r) 7 b.0) (omega arith)
-    ∙ ap (λ (n : ℕ). get_or (joined rows) n (pos 0)) (omega arith)
+    get_or-append_right r (end_to_end rows) 7 (suc i * 7 + k) (pos 0) (eqb-true (length r) 7 b.0) (omega arith)
+    ∙ ap (λ (n : ℕ). get_or (end_to_end rows) n (pos 0)) (omega arith)
     ∙ row-at rows b.1 i k (omega (arith, h)) w
 
 -- the code's rows

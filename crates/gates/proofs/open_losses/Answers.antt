@@ -18,6 +18,6 @@ returns c =
           ∙ ap₂ or_else x.verdict (c.losses_verdict.ensures ∙ ap (λ (n : ℕ). first_no (ask 10 (leb 1 n) ∷ [])) x.losses.limited)
           ∙ sym (after-gate (file_questions s) (question10 (losses_in s) ∷ []) refl);
       header = x.header;
-      run = x.run;
+      layout = x.layout;
       losses = x.losses;
     }

@@ -58,6 +58,6 @@ returns c =
           rated x c.and_then-terms.result c.open_losses-verdict.result.verdict refl
           (MatchResult-weaker c.open_losses-verdict.result.verdict c.and_then-terms.ensures (λ u p. search (rules, p)) (λ k p. p));
       header = x.header;
-      run = x.run;
+      layout = x.layout;
       losses = x.losses;
     }

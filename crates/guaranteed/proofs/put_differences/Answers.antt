@@ -23,8 +23,8 @@ module _ (c : goal.After-difference_of-difference) where
   difference-is : to_z w64 (of_z w64 c.difference_of-difference.result) ≡ pos c.bill_of-bill.result -ℤ pos c.args.cost
   difference-is = to_z-of_z {w = w64} (record { sfits = c.difference_of-difference.type_inv }) ∙ c.difference_of-difference.ensures
 
-pub sum_of-total-requires : goal.sum_of-total-requires
-sum_of-total-requires c = record {
+pub sum_of-so_far-requires : goal.sum_of-so_far-requires
+sum_of-so_far-requires c = record {
   sfits =
       sum_fits c.args.terms c.args.losses.each.now c.args.cost c.args.out.now c.args.losses.few c.requires c.loop-i.invariant c.loop-i-test.true (is c) (small c) (difference-is c)
       (omega (arith, c.ranges.cost));
@@ -36,7 +36,7 @@ loop-i-preserved c =
     subst
     (λ (z : ℤ). Differencing (bills_of c.args.terms (losses_of c.args.losses.each.now)) c.args.cost c.args.out.now (c.loop-i.i + 1) z
     (set c.loop-i.out c.loop-i.i (to_z w64 (of_z w64 c.difference_of-difference.result))))
-    (sym (to_z-of_z {w = w64} (record { sfits = c.sum_of-total.type_inv }) ∙ c.sum_of-total.ensures))
+    (sym (to_z-of_z {w = w64} (record { sfits = c.sum_of-so_far.type_inv }) ∙ c.sum_of-so_far.ensures))
     (differencing-more c.args.terms c.args.losses.each.now c.args.cost c.args.out.now c.args.losses.few c.requires c.loop-i.invariant c.loop-i-test.true (is p) (small p) (difference-is p))
 
 pub returns-clause-summed : goal.returns-clause-summed

@@ -9,18 +9,18 @@ use Rattle.reading.proofs.read.Goals as goal
 pub returns-then-counts-risks : goal.returns-then-counts-risks
 returns-then-counts-risks c = few-counts _ _ c.open_outline-verdict.ensures c.in_ok-verdict.was c.if-counts-risks.true
 
-pub returns-then-claims-run : goal.returns-then-claims-run
-returns-then-claims-run c =
-    few-claims _ _ c.open_outline-verdict.ensures c.in_ok-verdict.was c.if-counts-risks.false c.if-claims-run.true
+pub returns-then-claims-layout : goal.returns-then-claims-layout
+returns-then-claims-layout c =
+    few-claims _ _ c.open_outline-verdict.ensures c.in_ok-verdict.was c.if-counts-risks.false c.if-claims-layout.true
 
-pub returns-then-joined-run : goal.returns-then-joined-run
-returns-then-joined-run c =
-    few-bits _ _ c.open_outline-verdict.ensures c.in_ok-verdict.was c.if-counts-risks.false c.if-claims-run.false c.if-joined-run.true
+pub returns-then-joined-layout : goal.returns-then-joined-layout
+returns-then-joined-layout c =
+    few-bits _ _ c.open_outline-verdict.ensures c.in_ok-verdict.was c.if-counts-risks.false c.if-claims-layout.false c.if-joined-layout.true
 
 pub read_risks-requires : goal.read_risks-requires
 read_risks-requires c =
     risks-room c.args.file.now (buffers c.args.counts.now c.args.claims.now c.args.joined.now) c.open_outline-verdict.ensures
-    c.in_ok-verdict.was c.if-counts-risks.false c.if-claims-run.false c.if-joined-run.false c.new-claim_file.ensures
+    c.in_ok-verdict.was c.if-counts-risks.false c.if-claims-layout.false c.if-joined-layout.false c.new-claim_file.ensures
 
 pub returns-in_err-verdict : goal.returns-in_err-verdict
 returns-in_err-verdict c =
@@ -34,5 +34,5 @@ pub returns : goal.returns
 returns c =
     let stored = c.read_risks.ensures in
     read-says c.args.file.now (buffers c.args.counts.now c.args.claims.now c.args.joined.now) c.open_outline-verdict.ensures
-    c.in_ok-verdict.was c.if-counts-risks.false c.if-claims-run.false c.if-joined-run.false c.new-claim_file.ensures
+    c.in_ok-verdict.was c.if-counts-risks.false c.if-claims-layout.false c.if-joined-layout.false c.new-claim_file.ensures
     stored.counted stored.claimed stored.joining

@@ -1,51 +1,58 @@
--- Each claim is in reach, and a turn stores one claim more.
-use Rattle.std.proofs.Common.{◌≡◌, ◌<◌, refl, sym, ap, ◌∙◌, arith}
-use Rattle.plan.specs.Claim as plan
+-- A turn takes the next of the claims that are left, and stores it.
+use Rattle.std.proofs.Common.{◌≡◌, ◌<◌, refl, sym, ap, ◌∙◌, arith, length}
 use Rattle.plan.specs.Claim.{dollars}
-use Rattle.laws.proofs.Claims.{joined-le, past_more}
-use Rattle.claims.proofs.Laws.{next-reach}
+use Rattle.laws.proofs.Claims.{joined-le, length-claims}
+use Rattle.claims.proofs.Laws.{next-claim, next-claim-past}
+use Rattle.claims.specs.Cursor.{own_claims}
 use Rattle.reading.specs.Reading.{bit}
-use Rattle.reading.proofs.Storing.{copying-starts, parts-more, parts-all}
+use Rattle.reading.proofs.Storing.{rest-next, parts-start, parts-more, parts-all}
 use Rattle.reading.proofs.read_claims.Goals as goal
 
-pub claim_at-claim-requires : goal.claim_at-claim-requires
-claim_at-claim-requires c =
-    next-reach c.args.file.now.bytes.now {i = c.loop-i.i} c.loop-i.invariant.0 (omega (arith, c.loop-i-test.true, c.requires.0)) c.last_byte-reach.ensures
+pub next_claim-claim-requires : goal.next_claim-claim-requires
+next_claim-claim-requires c = omega (arith, c.loop-i.invariant.left, c.loop-i-test.true, c.requires.0)
 
 pub overflow_cast-joined : goal.overflow_cast-joined
 overflow_cast-joined c =
-    record { fits = omega (arith, c.claim_at-claim.ensures.bit, joined-le c.args.file.now.bytes.now c.loop-i.next.at) }
+    record { fits = omega (arith, c.joins.ensures, ap bit c.next_claim-claim.ensures.is, joined-le c.args.file.now.bytes.now c.loop-i.next.place.at) }
 
 pub loop-i-init : goal.loop-i-init
 loop-i-init c =
-    let s = c.args.file.now.bytes.now in
-    let at = c.args.span.first.at in
-    let k = c.args.span.count in
-    (refl, copying-starts dollars s at k 0 c.args.claims.now, copying-starts bit s at k 0 c.args.joined.now)
+    let all = own_claims c.args.file.now.bytes.now c.args.cursor in
+    record {
+      left = omega arith;
+      rest = refl;
+      past = refl;
+      dollars = parts-start dollars all c.args.claims.now;
+      bits = parts-start bit all c.args.joined.now;
+    }
 
 pub loop-i-preserved : goal.loop-i-preserved
 loop-i-preserved c =
     let s = c.args.file.now.bytes.now in
-    let at = c.args.span.first.at in
-    let k = c.args.span.count in
+    let a = c.args.cursor in
     let w = c.loop-i.invariant in
-    let x = c.claim_at-claim.ensures in
-    let h : c.loop-i.i < k = omega (arith, c.loop-i-test.true, c.requires.0) in (
-      x.next ∙ ap (plan.past_claim s) w.0 ∙ sym (past_more s at c.loop-i.i),
-      parts-more dollars s at k c.args.claims.now w.1 w.0 x.is h (sym c.requires.0),
-      parts-more bit s at k c.args.joined.now w.2 w.0 x.bit h (sym c.requires.1),
-    )
+    let x = c.next_claim-claim.ensures in
+    let many : length (own_claims s a) ≡ a.left = length-claims s a.place.at a.left in
+    let h : c.loop-i.i < length (own_claims s a) = omega (arith, c.loop-i-test.true, c.requires.0, many) in
+    let rest = w.rest ∙ next-claim x in
+    record {
+      left = omega (arith, w.left, x.left);
+      rest = rest-next (own_claims s a) c.loop-i.i rest;
+      past = w.past ∙ next-claim-past x;
+      dollars = parts-more w.dollars rest c.dollars.ensures h (many ∙ sym c.requires.0);
+      bits = parts-more w.bits rest c.joins.ensures h (many ∙ sym c.requires.1);
+    }
 
 -- all are passed
 module _ (c : goal.After-loop-i) where
-  all : c.loop-i.i ≡ c.args.span.count
-  all = omega (arith, c.loop-i-test.false, c.loop-i.auto.i-end, c.requires.0)
+  many : length (own_claims c.args.file.now.bytes.now c.args.cursor) ≡ c.args.cursor.left
+  many = length-claims c.args.file.now.bytes.now c.args.cursor.place.at c.args.cursor.left
 
-pub returns-clause-placed : goal.returns-clause-placed
-returns-clause-placed c = c.loop-i.invariant.0 ∙ ap (plan.past_claims c.args.file.now.bytes.now c.args.span.first.at) (all c)
+  all : c.loop-i.i ≡ length (own_claims c.args.file.now.bytes.now c.args.cursor)
+  all = omega (arith, c.loop-i-test.false, c.loop-i.auto.i-end, c.requires.0, many)
 
 pub returns-clause-claimed : goal.returns-clause-claimed
-returns-clause-claimed c = parts-all _ _ _ _ _ c.loop-i.invariant.1 (all c) (sym c.requires.0)
+returns-clause-claimed c = parts-all c.loop-i.invariant.dollars (all c) (many c ∙ sym c.requires.0)
 
 pub returns-clause-joining : goal.returns-clause-joining
-returns-clause-joining c = parts-all _ _ _ _ _ c.loop-i.invariant.2 (all c) (sym c.requires.1)
+returns-clause-joining c = parts-all c.loop-i.invariant.bits (all c) (many c ∙ sym c.requires.1)

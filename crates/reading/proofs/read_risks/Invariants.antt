@@ -5,5 +5,5 @@ use Rattle.reading.proofs.read_risks.Given as goal
 
 abbrev pub invariant-loop-entry : goal.invariant-loop-entry
 invariant-loop-entry l =
-    Storing l.file.bytes.now l.initial.next.at l.initial.entry-items l.initial.claims l.initial.joined l.entry-index l.next.at l.from
+    Storing l.file.bytes.now l.fn.place.at l.initial.entry-items l.initial.claims l.initial.joined l.entry-index l.next.place.at l.from
     l.entry-items l.claims l.joined

@@ -1,29 +1,30 @@
--- A claim's two fields lie in one of its width, and the place after it is the next one.
-use mathlib.Core.Path.{◌≡◌, ap, ◌∙◌}
-use Prim.Native.Nat.{ℕ, ◌/◌, ◌%◌, ◌^◌}
-use native.Mathlib.Nat.{div-one}
-use native.Mathlib.Omega.{arith}
-use Rattle.plan.specs.Field.{field}
+-- The claim on the front at the place is the one there, in either edition.
+use Rattle.std.proofs.Common.{◌≡◌, sym, ap, ◌∙◌, ℕ, ◌+◌, ◌≤◌, arith, List}
 use Rattle.plan.specs.Header.{edition_of}
-use Rattle.plan.specs.Claim.{claim_width, dollars_width}
-use Rattle.laws.proofs.Claims.{past-claim, joined-of-both, dollars-of-both}
+use Rattle.plan.specs.Claim.{joined_width, claim_at}
+use Rattle.laws.proofs.Claims.{joined-width-le, past-claim}
+use Rattle.bits.specs.Take.{FrontIs}
+use Rattle.bits.specs.declared.Front.{Front}
+use Rattle.bits.specs.declared.Taken.{Taken}
 use Rattle.group.specs.Edition.{edition_number}
-use Rattle.claims.proofs.Taking.{width-like}
+use Rattle.group.specs.declared.edition.Edition.{Edition}
+use Rattle.claims.specs.Claim.{ClaimOn, ClaimTaken}
+use Rattle.claims.specs.declared.claim.FileClaim.{FileClaim}
+use Rattle.claims.proofs.Taking.{width-by}
 use Rattle.claims.proofs.claim.claim_at.Goals as goal
 
-pub returns : goal.returns
-returns c =
-    let s = c.args.file.now.bytes.now in
-    let at = c.args.place.at in
-    let t = c.fields_at-taken in
-    let width : claim_width (edition_number c.args.file.now.edition) ≡ claim_width (edition_of s) =
-    width-like s c.args.file.now.edition c.args.file.now.lie in
-    let both : c.from-bits.result ≡ field s at (claim_width (edition_of s)) = c.from-bits.ensures ∙ t.ensures.is ∙ ap (field s at) width in
-    record {
-      bit = ap (λ (x : ℕ). x / 2 ^ dollars_width) both ∙ joined-of-both s at;
-      is =
-          c.extract-dollars.ensures
-          ∙ ap (λ (x : ℕ). x % 2 ^ dollars_width) (div-one c.from-bits.result ∙ both)
-          ∙ dollars-of-both s at;
-      next = omega (arith, t.ensures.place, width, past-claim s at);
-    }
+taken : (s : List ℕ) {b at : ℕ} → joined_width (edition_of s) ≡ b → {f : Front} → f.place.at ≡ at → FrontIs s 57 f → {r : Taken FileClaim Front}
+    → ClaimOn f b r → ClaimTaken s at r
+taken s {b} {at} e here a x =
+    let narrow : b + 20 ≤ 57 = omega (arith, e, joined-width-le (edition_of s)) in
+    record { is = x.is s 57 e narrow a ∙ ap (claim_at s) here; next = omega (arith, x.place, here, width-by s e, past-claim s at) }
+
+pub returns-in-First : goal.returns-in-First
+returns-in-First c =
+    let e = sym c.args.file.now.lie ∙ ap (λ (x : Edition). joined_width (edition_number x)) c.in-First.is in
+    taken c.args.file.now.bytes.now e c.front.ensures.0 c.front.ensures.1 c.claim_on.ensures
+
+pub returns-in-Second : goal.returns-in-Second
+returns-in-Second c =
+    let e = sym c.args.file.now.lie ∙ ap (λ (x : Edition). joined_width (edition_number x)) c.in-Second.is in
+    taken c.args.file.now.bytes.now e c.front-in-Second.ensures.0 c.front-in-Second.ensures.1 c.claim_on-in-Second.ensures

@@ -5,4 +5,4 @@ use Rattle.claims.proofs.Counting.{Counting}
 use Rattle.claims.proofs.counts.count_claims.Given as goal
 
 abbrev pub invariant-loop : goal.invariant-loop
-invariant-loop l = (l.counter ≤ l.risks) × Counting l.file.bytes.now l.counter l.next.at l.claims l.opened
+invariant-loop l = (l.counter ≤ l.risks) × Counting l.file.bytes.now l.counter l.next.at l.claims l.each_opens

@@ -1,15 +1,21 @@
--- A turn takes the word from the place on, and adds both claims that are on its front; an odd claim behind the pairs is added from a
--- word of its own. Then no claim follows.
+-- A turn adds the pair of claims on the front at the place; an odd claim behind the pairs is added from a front of its
+-- own. Then no claim follows.
 use Rattle.std.proofs.Common.{◌≡◌, ap, ◌∙◌, subst, ℕ, ◌+◌, ◌*◌, ◌/◌, ◌≤◌, ◌<◌, arith, List}
 use Rattle.plan.specs.Header.{edition_of}
-use Rattle.plan.specs.Claim.{Claim, joined_width, claims_from, past_claims}
-use Rattle.laws.proofs.Claims.{joined-width-le, length-claims, past-claims-by}
+use Rattle.plan.specs.Claim.{Claim, joined_width, claim_at, past_claim, claims_from, past_claims}
+use Rattle.laws.proofs.Claims.{joined-width-le, length-claims, past-claim, past-claims-by}
+use Rattle.bits.specs.Take.{FrontIs}
+use Rattle.bits.proofs.Laws.{front-is, ahead_past}
 use Rattle.bits.specs.declared.BitPlace.{BitPlace}
+use Rattle.bits.specs.declared.Front.{Front}
+use Rattle.bits.specs.declared.Taken.{Taken}
+use Rattle.claims.specs.Claim.{ClaimFits, ClaimOn, claim_of, first_on, second_on}
 use Rattle.claims.specs.Run.{ClaimsAre}
 use Rattle.claims.specs.Sums.{LossesOf}
+use Rattle.claims.specs.declared.claim.FileClaim.{FileClaim}
 use Rattle.claims.specs.declared.run.ClaimRun.{ClaimRun}
-use Rattle.claims.proofs.Reach.{front-reach}
-use Rattle.claims.proofs.Taking.{width-by, one-there, two-there}
+use Rattle.claims.proofs.Reach.{next-reach}
+use Rattle.claims.proofs.Taking.{width-by, claim-by, one-more, two-more}
 use Rattle.claims.proofs.sums.run_of.Goals as goal
 
 -- an edition has one bit at most
@@ -20,21 +26,47 @@ one-bit s e = omega (arith, joined-width-le (edition_of s))
 pair-within : (n k : ℕ) → k < n / 2 → 2 * k + 2 ≤ n
 pair-within n k h = omega arith
 
-pub take_front-pair-requires : goal.take_front-pair-requires
-take_front-pair-requires g c =
+-- the claims on the front at a place
+module _ (s : List ℕ) {b : ℕ} (e : joined_width (edition_of s) ≡ b) {p : ℕ} {f : Front} (here : f.place.at ≡ p) (a : FrontIs s 57 f) where
+  front-claim : {r : Taken FileClaim Front} → ClaimOn f b r → claim_of r.value ≡ claim_at s p
+  front-claim x = x.is s 57 e (omega (arith, one-bit s e)) a ∙ ap (claim_at s) here
+
+  front-first : claim_of (first_on b f) ≡ claim_at s p
+  front-first = claim-by s e f.place.at (first_on b f) (front-is a (b + 20) (omega (arith, one-bit s e))) ∙ ap (claim_at s) here
+
+  front-second : claim_of (second_on b f) ≡ claim_at s (past_claim s p)
+  front-second =
+      let behind = ahead_past a (b + 20) (omega (arith, one-bit s e)) in
+      claim-by s e (f.place.at + (b + 20)) (second_on b f) (front-is behind (b + 20) (omega (arith, one-bit s e)))
+      ∙ ap (claim_at s) (omega (arith, here, past-claim s p, width-by s e))
+
+-- ---- a pair
+
+pub front-requires : goal.front-requires
+front-requires g c =
     let l = c.loop in
-    let most = one-bit c.args.file.now c.requires in
-    front-reach c.args.file.now {i = 2 * l.counter} (2 * (c.BITS-width.result + 20)) l.invariant.place
-    (omega (arith, pair-within c.args.span.count l.counter c.loop-test.true)) (omega (arith, most, c.BITS-width.ensures))
-    c.last_byte-reach.ensures
+    let few = pair-within c.args.span.count l.counter c.loop-test.true in
+    let r = next-reach c.args.file.now {i = 2 * l.counter} l.invariant.place (omega (arith, few)) c.last_byte-reach.ensures in
+    omega (arith, r.ends)
 
 pub add_pair-sums-requires : goal.add_pair-sums-requires
 add_pair-sums-requires g c =
     let s = c.args.file.now in
+    let l = c.loop in
     let at = c.args.span.first.at in
-    let k : ℕ = 2 * c.loop.counter in
-    let few = pair-within c.args.span.count c.loop.counter c.loop-test.true in
-    (claims_from s at k, c.args.limit, omega (arith, few, c.args.span.reach.few, length-claims s at k), c.loop.invariant.are)
+    let k : ℕ = 2 * l.counter in
+    let few = pair-within c.args.span.count l.counter c.loop-test.true in
+    let r = next-reach s {i = k} l.invariant.place (omega (arith, few)) c.last_byte-reach.ensures in (
+      (claims_from s at k, c.args.limit, omega (arith, few, c.args.span.reach.few, length-claims s at k), l.invariant.are),
+      omega (arith, r.inside, c.front.ensures.0),
+    )
+
+pub past-next-requires : goal.past-next-requires
+past-next-requires g c =
+    let l = c.loop in
+    let few = pair-within c.args.span.count l.counter c.loop-test.true in
+    let r = next-reach c.args.file.now {i = 2 * l.counter} l.invariant.place (omega (arith, few)) c.last_byte-reach.ensures in
+    omega (arith, r.inside, one-bit c.args.file.now c.requires, c.BITS-width.ensures)
 
 pub loop-preserved : goal.loop-preserved
 loop-preserved g c =
@@ -44,14 +76,15 @@ loop-preserved g c =
     let l = c.loop in
     let k : ℕ = 2 * l.counter in
     let few = pair-within c.args.span.count l.counter c.loop-test.true in
-    let x = c.take_front-pair.ensures in
     let next : k + 2 ≡ 2 * (l.counter + 1) = omega arith in
-    let both = two-there s e (one-bit s e) at k l.invariant.place x.ahead (omega (arith, c.BITS-width.ensures)) in
+    let here = c.front.ensures.0 in
+    let ahead = c.front.ensures.1 in
+    let both = two-more s at k l.invariant.place (front-first s e here ahead) (front-second s e here ahead) in
     record {
       within = omega (arith, c.loop-test.true);
       place = omega (
         arith,
-        x.place,
+        c.past-next.ensures,
         c.BITS-width.ensures,
         l.invariant.place,
         past-claims-by s (width-by s e) at k,
@@ -91,20 +124,27 @@ returns-then-count-eq0 g c =
 
 -- ---- with an odd claim
 
-pub take_front-last-requires : goal.take_front-last-requires
-take_front-last-requires g c =
+pub front-requires-2 : goal.front-requires-2
+front-requires-2 g c =
     let l = c.loop in
-    let most = one-bit c.args.file.now c.requires in
-    front-reach c.args.file.now {i = 2 * l.counter} (c.BITS-width.result + 20) l.invariant.place
-    (omega (arith, l.invariant.within)) (omega (arith, most, c.BITS-width.ensures)) c.last_byte-reach.ensures
+    let r = next-reach c.args.file.now {i = 2 * l.counter} l.invariant.place (omega (arith, l.invariant.within)) c.last_byte-reach.ensures in
+    omega (arith, r.ends)
+
+pub claim_on-last-requires : goal.claim_on-last-requires
+claim_on-last-requires g c =
+    let l = c.loop in
+    let r = next-reach c.args.file.now {i = 2 * l.counter} l.invariant.place (omega (arith, l.invariant.within)) c.last_byte-reach.ensures in
+    (omega (arith, one-bit c.args.file.now c.requires, c.BITS.ensures), omega (arith, r.inside, c.front-2.ensures.0))
 
 pub add_claim-requires : goal.add_claim-requires
 add_claim-requires g c =
     let s = c.args.file.now in
     let at = c.args.span.first.at in
     let k : ℕ = 2 * c.loop.counter in
-    let few : k + 1 ≤ c.args.span.count = omega (arith, c.loop.invariant.within, c.if-count-eq0.false) in
-    (claims_from s at k, c.args.limit, omega (arith, few, c.args.span.reach.few, length-claims s at k), c.loop.invariant.are)
+    let few : k + 1 ≤ c.args.span.count = omega (arith, c.loop.invariant.within, c.if-count-eq0.false) in (
+      (claims_from s at k, c.args.limit, omega (arith, few, c.args.span.reach.few, length-claims s at k), c.loop.invariant.are),
+      subst (λ (b : ℕ). ClaimFits b c.claim_on-last.result.value) c.BITS.ensures c.claim_on-last.ensures.fits,
+    )
 
 pub ended-requires-2 : goal.ended-requires-2
 ended-requires-2 g c =
@@ -113,7 +153,8 @@ ended-requires-2 g c =
     let e = c.requires in
     let k : ℕ = 2 * c.loop.counter in
     let few : k + 1 ≤ c.args.span.count = omega (arith, c.loop.invariant.within, c.if-count-eq0.false) in
-    let last = one-there s e (one-bit s e) at k c.loop.invariant.place c.take_front-last.ensures.ahead (omega (arith, c.BITS-width.ensures)) in (
+    let x = subst (λ (b : ℕ). ClaimOn c.front-2.result b c.claim_on-last.result) c.BITS.ensures c.claim_on-last.ensures in
+    let last = one-more s at k c.loop.invariant.place (front-claim s e c.front-2.ensures.0 c.front-2.ensures.1 x) in (
       claims_from s at (k + 1),
       c.args.limit,
       omega (arith, few, c.args.span.reach.few, length-claims s at (k + 1)),
@@ -130,17 +171,19 @@ returns g c =
     let l = c.loop in
     let k : ℕ = 2 * l.counter in
     let all : k + 1 ≡ c.args.span.count = omega (arith, l.invariant.within, c.loop-test.false, c.if-count-eq0.false) in
-    let x = c.take_front-last.ensures in
-    let last = one-there s e (one-bit s e) at k l.invariant.place x.ahead (omega (arith, c.BITS-width.ensures)) in
+    let x = subst (λ (b : ℕ). ClaimOn c.front-2.result b c.claim_on-last.result) c.BITS.ensures c.claim_on-last.ensures in
+    let here = c.front-2.ensures.0 in
+    let last = one-more s at k l.invariant.place (front-claim s e here c.front-2.ensures.1 x) in
     let are =
     subst (λ (cs : List Claim). g.S.Sums.Are cs c.args.limit c.add_claim.result) last
     (c.add_claim.ensures (claims_from s at k) c.args.limit (omega (arith, all, c.args.span.reach.few, length-claims s at k)) l.invariant.are) in
-    let place : c.take_front-last.result.next.at ≡ past_claims s at (k + 1) =
+    let place : c.claim_on-last.result.next.place.at ≡ past_claims s at (k + 1) =
     omega (
       arith,
       x.place,
-      c.BITS-width.ensures,
+      here,
       l.invariant.place,
+      width-by s e,
       past-claims-by s (width-by s e) at k,
       past-claims-by s (width-by s e) at (k + 1),
     ) in

@@ -1,10 +1,10 @@
--- The claim on the front of the word opens an accident or joins the last.
+-- The claim opens an accident or joins the last.
 use Rattle.std.proofs.Common.{arith}
-use Rattle.losses.proofs.Joining.{in-word-le, accident-room, joining-more}
+use Rattle.losses.proofs.Joining.{claim-le, accident-room, joining-more}
 use Rattle.losses.proofs.accidents.AccidentSumsSums.add_claim.Goals as goal
 
-pub join_from-requires : goal.join_from-requires
-join_from-requires c = (accident-room c.requires.3 (omega (arith, c.requires.2)), omega arith)
+pub join_claim-requires : goal.join_claim-requires
+join_claim-requires c = accident-room c.requires.0.3 (omega (arith, c.requires.0.2))
 
 pub returns : goal.returns
-returns c = λ cs limit few w. joining-more w (omega (arith, few)) (in-word-le c.args.word 43) c.join_from.ensures
+returns c = λ cs limit few w. joining-more w (omega (arith, few)) (claim-le c.args.claim) c.join_claim.ensures
