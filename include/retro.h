@@ -73,11 +73,9 @@
  *
  * A slice is a pointer and a count of elements. Its pointer may be null where the count is 0. Every
  * other pointer, also that to a number, must be aligned for its type and point to as many elements
- * as the count says, readable ones, and writable ones where it is not to const. This alone, and for
- * retro_charge how the thread rounds, is not checked. Bytes, counts, claims, bits and values of any
- * kind are answered.
- *
- * What a call writes must not overlap with anything else that the same call is given.
+ * as the count says, readable ones, and writable ones where it is not to const. What a call writes must
+ * not overlap with anything else that the same call is given. These two, and for retro_charge how the
+ * thread rounds, are not checked. Bytes, counts, claims, bits and values of any kind are answered.
  *
  * A call needs less than 16 KiB of stack.
  *
@@ -145,9 +143,9 @@ typedef struct retro_group {
 /*
  * Rates a group file.
  *
- *     premiums  gets the billed premium of each risk in file order, in whole dollars, as four bytes
- *               with the most significant first. Four bytes for each risk are enough, so
- *               4 * RETRO_MOST_RISKS always are. Later bytes keep their contents.
+ *     premiums  gets the billed premium of each risk in file order, in whole dollars, to the nearest, an
+ *               exact half upward, as four bytes with the most significant first. Four bytes for each
+ *               risk are enough, so 4 * RETRO_MOST_RISKS always are. Later bytes keep their contents.
  *     risks     gets the number of risks.
  *     basic     gets the balanced basic premium of the whole group in thousandths of a dollar.
  *     excess    gets the excess loss charge of the whole group in thousandths of a dollar.
@@ -266,6 +264,8 @@ uint32_t retro_plan(const uint8_t *file, size_t file_len, uint32_t maximum, uint
  *     charge       gets the charge in thousandths: what the risks' limited losses have above that
  *                  ratio of their mean, as a part of all limited losses.
  *     savings      gets the savings in thousandths: what they lack below it.
+ *
+ * Both are to the nearest thousandth, an exact half upward.
  */
 uint32_t retro_table(const uint8_t *file, size_t file_len, uint32_t entry_ratio, uint32_t *charge,
                      uint32_t *savings);

@@ -2,8 +2,8 @@
 //!
 //! The first line may be `edition 1` or `edition 2`; without it the edition is 1. The next line has
 //! the eight header values in file order. Then each risk has a line with its claims, or with `-`
-//! alone where it has none. Values are whole numbers in decimal digits, and the minimum mark is at
-//! most the maximum mark. In edition 2 a claim that belongs to the accident of the claim before it
+//! alone where it has none. Values are whole numbers in decimal digits, of which the first is no 0 but
+//! for the number 0, and the minimum mark is at most the maximum mark. In edition 2 a claim that belongs to the accident of the claim before it
 //! has a `+` before its digits. A blank line is a mistake wherever it stands: it could be a risk
 //! without claims, or nothing.
 //!
@@ -91,11 +91,19 @@ impl fmt::Display for Value {
 }
 
 impl Value {
-    /// The number that a word has for this value.
-    fn of(&self, word: &str) -> Option<u32> {
-        let digits = word.bytes().all(|byte| byte.is_ascii_digit());
-        let number = word.parse().ok().filter(|_| digits)?;
-        (self.least..=self.most).contains(&number).then_some(number)
+    /// The number that a word has for this value in its digits, or why it has none. No number begins
+    /// with a zero but 0: the 000 of 3 000 is no claim of its own.
+    fn of(&self, word: &str, digits: &str) -> Result<u32, String> {
+        if digits.len() > 1 && digits.starts_with('0') {
+            return Err(format!(
+                "{word} begins with a 0; thousands are not separated"
+            ));
+        }
+        let all = digits.bytes().all(|byte| byte.is_ascii_digit());
+        let number = digits.parse().ok().filter(|_| all);
+        number
+            .filter(|number| (self.least..=self.most).contains(number))
+            .ok_or_else(|| format!("{word} is not {self}"))
     }
 }
 
@@ -301,8 +309,7 @@ fn parse_header(words: &[&str], number: usize) -> Result<Header, Mistake> {
         let wrong = |what| mistake(number, value.name, what);
         let word = words.get(k);
         let word = word.ok_or_else(|| wrong(format!("missing; {value}")))?;
-        let number = value.of(word);
-        numbers[k] = number.ok_or_else(|| wrong(format!("{word} is not {value}")))?;
+        numbers[k] = value.of(word, word).map_err(wrong)?;
     }
     if words.len() > HEADER.len() {
         let what = format!("{} values; the header has {}", words.len(), HEADER.len());
@@ -361,8 +368,7 @@ fn parse_risk(line: &Line, risk: usize, edition: u32) -> Result<(Vec<u32>, Vec<u
         if digits.is_some() && k == 0 {
             return Err(wrong(format!("{word} has no claim before it in the risk")));
         }
-        let claim = CLAIM.of(digits.unwrap_or(word));
-        claims.push(claim.ok_or_else(|| wrong(format!("{word} is not {CLAIM}")))?);
+        claims.push(CLAIM.of(word, digits.unwrap_or(word)).map_err(wrong)?);
         joined.push(u8::from(digits.is_some()));
     }
     Ok((claims, joined))

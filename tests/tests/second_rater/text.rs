@@ -374,6 +374,17 @@ fn separated_thousands_are_no_claims() {
         mistake(&format!("\u{ff11}{HEADER}\n1\n")),
         "line 1, field 1: U+FF11 \u{ff11}: only 0 to 9 are digits"
     );
+    // a space leaves the 000, which is no claim, and no value of the header; 0 alone is one
+    assert_eq!(
+        mistake(&format!("{HEADER}\n-\n3 000 1 000\n")),
+        "line 3, claim 2 of risk 2: 000 begins with a 0; thousands are not separated"
+    );
+    assert_eq!(
+        mistake(&format!("{}\n1\n", HEADER.replacen("5000", "05000", 1))),
+        "line 1, loss limit: 05000 begins with a 0; thousands are not separated"
+    );
+    let zeros = format!("{}\n0 0 1\n", HEADER.replacen("5000", "0", 1));
+    assert!(parse(zeros.as_bytes()).is_ok());
     // the first such character is named, and a mistake of an earlier line before it
     let said = mistake(&format!("{HEADER}\n3000\u{a0}4,000\n"));
     assert!(said.starts_with("line 2, field 1: U+00A0 "), "{said}");
