@@ -3,12 +3,13 @@
  * it is given by name, for a maximum and a minimum premium in whole dollars, taxes included. A number
  * of trials may follow; without it there are twenty, which always finish.
  *
- * It prints the trials made; the best basic premium yet that reaches the total, in dollars a risk; the
- * largest known to fall short of it, or none; and of the whole group what the premiums of that best
- * one come to, the taxed expenses and losses that they are to pay, and what they are over them. In a
- * finished plan the first two are a dollar apart, and the best is the least of all. Where it is above 0
- * the premiums are then over by at most a taxed dollar a risk; where it is 0 they may be over by any
- * amount, as where the minimum premium alone is more than is owed.
+ * It prints the trials made, and whether the plan is finished; the best basic premium yet that reaches
+ * the total, in dollars a risk; the largest known to fall short of it, or none; and of the whole group
+ * what the premiums of that best one come to, the taxed expenses and losses that they are to pay, and
+ * what they are over them. In a finished plan the best and the largest that falls short are a dollar
+ * apart, and the best is the least of all. Where it is above 0 the premiums are then over by at most a
+ * taxed dollar a risk; where it is 0 they may be over by any amount, as where the minimum premium alone
+ * is more than is owed.
  *
  * These amounts are in dollars to four places. What is owed has no more; the premiums and the
  * difference are cut off there.
@@ -20,6 +21,7 @@
 
 #include <errno.h>
 #include <inttypes.h>
+#include <stdbool.h>
 #include <stdio.h>
 #include <stdlib.h>
 #include <string.h>
@@ -160,7 +162,9 @@ static uint32_t show(size_t len, uint32_t maximum, uint32_t minimum, uint32_t tr
     add_up(&group, &losses);
     uint64_t total = premiums_in_all(&group, &losses, best, maximum, minimum);
     uint64_t owed = group.tax * ((uint64_t)group.risks * group.expense + losses.total);
-    printf("%-28s %12" PRIu32 "\n", "trials made", made);
+    bool finished = (int64_t)best - short_of == 1;
+    printf("%-28s %12" PRIu32 "      %s\n", "trials made", made,
+           finished ? "finished" : "not finished");
     print_basic("best basic premium", best);
     if (short_of < 0) {
         printf("%-28s %12s\n", "largest known to fall short", "none");

@@ -117,13 +117,17 @@ fn planned(terms: &str) -> String {
         -1 => format!("{:>12}", "none"),
         short_of => format!("{short_of:12}      dollars a risk"),
     };
+    let finished = match i64::from(plan.best) - i64::from(plan.short_of) {
+        1 => "finished",
+        _ => "not finished",
+    };
     let amount = |parts: u128| {
         let cut_off = parts * 10_000 / books.dollar();
         let (dollars, rest) = (cut_off / 10_000, cut_off % 10_000);
         format!("{dollars:12}.{rest:04} dollars for the group")
     };
     format!(
-        "trials made                  {made:12}\n\
+        "trials made                  {made:12}      {finished}\n\
          best basic premium           {best:12}      dollars a risk\n\
          largest known to fall short  {largest_short}\n\
          premiums                     {}\n\
