@@ -129,7 +129,7 @@ static uint32_t bill(const struct contents *file)
         printf("risk %3" PRIu32 "  premium %10" PRIu32 "\n", k + 1, premium_at(premiums, k));
     }
     printf("%-24s %12" PRIu32 "\n", "risks", risks);
-    printf("%-24s %12" PRIu64 "\n", "billed", billed);
+    printf("%-24s %12" PRIu64 "     dollars for the group\n", "billed", billed);
     print_thousandths("basic premium", basic);
     print_thousandths("excess loss charge", excess);
     for (size_t k = 0; k < sizeof entry_ratios / sizeof entry_ratios[0] && refused == 0; k++) {

@@ -116,9 +116,9 @@ static uint32_t show(size_t len, retro_schedule schedule)
     }
     printf("group     premium %10" PRIu64, billed);
     print_difference(difference);
-    printf("%-24s %12" PRIu32 "\n", "standard premium", discount + guaranteed);
-    printf("%-24s %12" PRIu32 "\n", "premium discount", discount);
-    printf("%-24s %12" PRIu32 "\n", "guaranteed cost", guaranteed);
+    printf("%-24s %12" PRIu32 "     dollars a risk\n", "standard premium", discount + guaranteed);
+    printf("%-24s %12" PRIu32 "     dollars a risk\n", "premium discount", discount);
+    printf("%-24s %12" PRIu32 "     dollars a risk\n", "guaranteed cost", guaranteed);
     print_thousandths("basic premium", basic);
     print_thousandths("excess loss charge", excess);
     return 0;

@@ -42,7 +42,10 @@ fn invoice(file: &[u8]) -> String {
         lines += &format!("risk {:3}  premium {premium:10}\n", k + 1);
     }
     lines += &format!("{:24} {:12}\n", "risks", rated.risks);
-    lines += &format!("{:24} {:12}\n", "billed", rated.billed);
+    lines += &format!(
+        "{:24} {:12}     dollars for the group\n",
+        "billed", rated.billed
+    );
     lines += &amounts(&rated);
     for (r, entry_ratio) in [(50, "0.50"), (100, "1.00"), (150, "1.50")] {
         let (charge, savings) = second_rater::table(file, r).unwrap();
@@ -80,7 +83,7 @@ fn guaranteed_cost() {
         ("premium discount", given.discount),
         ("guaranteed cost", given.guaranteed),
     ] {
-        lines += &format!("{what:24} {dollars:12}\n");
+        lines += &format!("{what:24} {dollars:12}     dollars a risk\n");
     }
     lines += &amounts(&given.rated);
     assert_eq!(stored("guaranteed"), lines);
