@@ -4,12 +4,12 @@
 use mathlib.Core.Path.{◌≡◌, refl, sym, ap, ap₂, ◌∙◌, subst}
 use mathlib.Core.Bool.{Bool, true, false, cond}
 use mathlib.Core.List.{List, [], ◌∷◌, ◌++◌, map}
-use Prim.Native.Nat.{ℕ, zero, suc, ◌+◌, ◌*◌, ◌/◌, ◌%◌, ◌^◌, ◌≤◌, ◌<◌}
+use Prim.Native.Nat.{ℕ, zero, suc, ◌+◌, ◌*◌, ◌/◌, ◌%◌, ◌^◌, ◌≤◌}
 use native.Mathlib.Nat.{zero-add, mul-le-mul_right}
 use native.Mathlib.Omega.{arith}
 use borrow.Author.Tests.{ltb-true, lt-ltb}
 use lib.Dec.{eqb}
-use lib.ListN.{length, get_or, take, drop}
+use lib.ListN.{length, take, drop}
 use lib.Pow.{high, low}
 use Rattle.plan.specs.Sizes.{largest_claim, most_claim_width}
 use Rattle.plan.specs.Field.{field, Slot, total_width, Laid, Fitting, fits, all_fit}
@@ -110,17 +110,7 @@ past-claims-by s e at k = past-claims s at k ∙ ap (λ (w : ℕ). at + w * k) (
 pub past-claims-le : (s : List ℕ) (at k : ℕ) → past_claims s at k ≤ at + most_claim_width * k
 past-claims-le s at k = omega (arith, past-claims s at k, run-le (edition_of s) k)
 
--- a part of claim i of a run, as its dollars, is that of the claim at the place where i claims end
-pub part_in : (part : Claim → ℕ) (s : List ℕ) (at k i : ℕ) → i < k
-    → get_or (map part (claims_from s at k)) i 0 ≡ part (claim_at s (past_claims s at i))
-part_in part s at zero i h = absurd (omega arith)
-part_in part s at (suc k) zero h = refl
-part_in part s at (suc k) (suc i) h = part_in part s (past_claim s at) k i (omega arith)
-
 -- ---- a run in two
-
-pub past_split : (s : List ℕ) (at j k : ℕ) → past_claims s at (j + k) ≡ past_claims s (past_claims s at j) k
-past_split s at j k = omega (arith, past-claims s at (j + k), past-claims s at j, past-claims s (past_claims s at j) k)
 
 pub claims-split : (s : List ℕ) (at j k : ℕ) → claims_from s at (j + k) ≡ claims_from s at j ++ claims_from s (past_claims s at j) k
 claims-split s at zero k = ap (claims_from s at) (zero-add k)
@@ -129,9 +119,6 @@ claims-split s at (suc j) k =
     ap (claims_from s at) e ∙ ap (λ (l : List Claim). claim_at s at ∷ l) (claims-split s (past_claim s at) j k)
 
 -- one claim more
-pub past_more : (s : List ℕ) (at k : ℕ) → past_claims s at (k + 1) ≡ past_claim s (past_claims s at k)
-past_more s at k = past_split s at k 1
-
 pub claims-more : (s : List ℕ) (at k : ℕ) → claims_from s at (k + 1) ≡ claims_from s at k ++ claim_at s (past_claims s at k) ∷ []
 claims-more s at k = claims-split s at k 1
 
