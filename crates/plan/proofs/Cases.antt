@@ -11,11 +11,12 @@ use Rattle.plan.proofs.AccidentCases.{AccidentsCase, accidents_case}
 use Rattle.plan.proofs.ChargeCases.{ChargeCase, charge_case, TenfoldCase, tenfold_case}
 use Rattle.plan.proofs.PlanCases.{PlanCase, plan_case, SoldCase, sold_case}
 use Rattle.plan.proofs.OrderCases.{OrderCase, order_case}
+use Rattle.plan.proofs.CallCases.{CallCase, call_case}
 
 -- all of them: 'gathered as one checked list'
 pub proved_cases :
     FieldCase × FourCase × TableCase × OtherCases × BufferCase × DemandCase × HeaderQuestionCase × FileQuestionCase × FitCase × SizeCase × BoundCase × GuaranteedCase × BesideBufferCase × BesideCase × MarksCase × SumsCase × AccidentsCase × ChargeCase
-    × TenfoldCase × PlanCase × SoldCase × OrderCase
+    × TenfoldCase × PlanCase × SoldCase × OrderCase × CallCase
 proved_cases = (
   field_case,
   four_case,
@@ -39,4 +40,5 @@ proved_cases = (
   plan_case,
   sold_case,
   order_case,
+  call_case,
 )

@@ -4,7 +4,7 @@ use mathlib.Core.List.{[], ◌∷◌, ◌++◌}
 use Rattle.plan.specs.Losses.{limited_of}
 use Rattle.plan.specs.Marks.{LG, LH}
 use Rattle.plan.specs.Ratable.{ratable, SX, SS}
-use Rattle.plan.specs.Call.{refused, IfGiven, BuffersAfter}
+use Rattle.plan.specs.Call.{given, refused, giving, IfGiven, BuffersAfter}
 use Rattle.plan.specs.Calls.{rated_of, rate}
 use Rattle.plan.specs.Arithmetic.{nearest}
 use Rattle.plan.specs.Field.{bit, number, field, bytes_of}
@@ -13,7 +13,7 @@ use Rattle.plan.specs.Risk.{count_at, first_claim}
 use Rattle.plan.specs.Basic.{basic_premium, excess_charge}
 use Rattle.plan.specs.Premium.{bill_rounding, bill_with}
 use Rattle.plan.specs.Discount.{discount_sum, discount, guaranteed_cost, widths_pass}
-use Rattle.plan.specs.Comparison.{comparison_of, compare, Beside, Sized, compare_buffers, compare_call}
+use Rattle.plan.specs.Comparison.{comparison_of, compare, numbers_of, Beside, Sized, compare_buffers, compare_call}
 use Rattle.plan.proofs.Groups.{four_file, tens_file2000, layer, stock, four_beside, four_numbers, four_premiums, four_differences, rates}
 use Prim.Native.Nat.{◌+◌, ℕ, ◌*◌, ◌≤◌}
 use lib.IntN.{negsuc, pos, ◌-ℤ◌}
@@ -38,6 +38,7 @@ GuaranteedCase =
     × (discount (layer 4294967295 100 ∷ layer 4294967295 200 ∷ layer 4294967295 300 ∷ layer 0 400 ∷ []) 4194303 ≡ 419430)
     × (compare four_file (stock 0) 16 4 ≡ four_beside)
     × (compare four_file (stock 4294967295) 16 4 ≡ four_beside)
+    × (giving numbers_of four_beside ≡ given four_numbers)
     -- without a layer
     × (discount_sum [] 5 ≡ 0)
     × (discount [] 5 ≡ 0)
@@ -54,7 +55,7 @@ GuaranteedCase =
 
 pub guaranteed_case : GuaranteedCase
 unfolding number bit field claim_width claim_at past_claim count_at first_claim limited_of LG LH SX SS ratable basic_premium excess_charge nearest bill_rounding bill_with rated_of discount guaranteed_cost comparison_of compare_call
-guaranteed_case = by_fields (refl, refl, refl, refl, refl, refl, refl, refl, refl, refl, refl, refl, refl, refl, refl, refl, refl, refl, refl)
+guaranteed_case = by_fields (refl, refl, refl, refl, refl, refl, refl, refl, refl, refl, refl, refl, refl, refl, refl, refl, refl, refl, refl, refl)
 
 -- its two buffers after the call, each longer than it need be; and after refusals, which keep them
 abbrev pub BesideBufferCase : Type 0

@@ -11,4 +11,5 @@ pub mod AccidentCases
 pub mod ChargeCases
 pub mod PlanCases
 pub mod OrderCases
+pub mod CallCases
 pub mod Cases
