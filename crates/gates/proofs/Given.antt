@@ -10,7 +10,7 @@ use Rattle.plan.specs.Call.{answer}
 use Rattle.laws.proofs.Calls.{given-passed, refused-failed}
 use Rattle.laws.proofs.Losses.{length-losses}
 use Rattle.group.specs.Refusals.{number_of, answer_is}
-use Rattle.group.specs.Values.{losses_of, losses_is, LossesAre}
+use Rattle.group.specs.Values.{losses_of, losses_is, LossesAre, each_of}
 use Rattle.group.specs.declared.Losses as declared_losses
 use Rattle.group.specs.declared.Refusal.{Refusal}
 use Rattle.group.specs.declared.GroupLosses.{GroupLosses}
@@ -51,7 +51,7 @@ module _ (s : List ℕ) (t : Terms)
   risk-count = risks_are ∙ length-losses s
 
   -- as many as the losses that the gate gives
-  pub as-many : {g : GroupLosses} {xs : List declared_losses.Losses} → LossesAre (losses_in s) g → xs ≡ g.of_risks.items → length xs ≡ t.risks
+  pub as-many : {g : GroupLosses} {xs : List declared_losses.Losses} → LossesAre (losses_in s) g → xs ≡ each_of g → length xs ≡ t.risks
   as-many x lent = ap length lent ∙ risks x ∙ sym risks_are
 
   -- the bills by the losses that the gate gives are step 6's premiums of the risks
@@ -60,7 +60,7 @@ module _ (s : List ℕ) (t : Terms)
   bills-are x = ap₂ (λ (y : premium.Terms) (l : List Losses). map (λ (r : Losses). bill_with y r.limited) l) terms-are x.each
 
   -- and where those losses are lent
-  pub lent-bills : {g : GroupLosses} {xs : List declared_losses.Losses} → LossesAre (losses_in s) g → xs ≡ g.of_risks.items
+  pub lent-bills : {g : GroupLosses} {xs : List declared_losses.Losses} → LossesAre (losses_in s) g → xs ≡ each_of g
       → map (λ (r : Losses). bill_with (terms_is t) r.limited) (losses_of xs) ≡ billed_premiums (header_of s) (losses_in s)
   lent-bills x lent =
       ap (λ (l : List declared_losses.Losses). map (λ (r : Losses). bill_with (terms_is t) r.limited) (losses_of l)) lent ∙ bills-are x

@@ -4,3 +4,5 @@ pub mod Says
 pub mod Values
 pub mod Edition
 pub mod Given
+-- the entries behind the risks
+pub mod Entries

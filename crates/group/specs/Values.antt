@@ -1,5 +1,5 @@
 -- The code's values as those of document 01: the header values and the losses.
-use Rattle.std.specs.Prelude.{◌≡◌, List, map}
+use Rattle.std.specs.Prelude.{◌≡◌, List, map, take}
 use Rattle.plan.specs.Header as header
 use Rattle.plan.specs.Losses as losses
 use Rattle.plan.specs.Losses.{SL, SA}
@@ -24,9 +24,13 @@ header_is h = record {
 abbrev pub losses_of : List Losses → List losses.Losses
 losses_of xs = map (λ x. record { total = x.total; limited = x.limited }) xs
 
+-- L and A of each of a group's risks, of the 255 entries that the code has
+abbrev pub each_of : GroupLosses → List Losses
+each_of g = take g.risks g.of_risks
+
 -- the losses that the code has
 abbrev pub losses_is : GroupLosses → List losses.Losses
-losses_is g = losses_of g.of_risks.items
+losses_is g = losses_of (each_of g)
 
 -- the code's losses are rs: L and A of each risk, SL and SA
 pub record LossesAre (rs : List losses.Losses) (g : GroupLosses) : Type 0 where

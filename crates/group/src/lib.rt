@@ -2,8 +2,9 @@
 // means in document 01 is in specs/; nothing here knows how they lie in a file.
 #![tactic(auto)]
 
-ghost use Rattle.std.specs.Prelude.{◌≡◌, ◌≤◌, length};
+ghost use Rattle.std.specs.Prelude.{◌≡◌, ◌≤◌, length, take, drop};
 ghost use Rattle.plan.specs.Sizes.{most_risks};
+ghost use Rattle.group.specs.Entries.{behind};
 ghost use Rattle.group.specs.Refusals.{number_of};
 
 pub mod edition;
@@ -11,7 +12,6 @@ pub mod given;
 pub mod questions;
 pub mod widths;
 
-use arrayvec::ArrayVec;
 use std::error::Error;
 use std::fmt;
 
@@ -107,28 +107,32 @@ pub struct RiskLosses<'a> {
     pub ghost few: { length each.now ≤ most_risks },
 }
 
-// The losses of a group: L and A of each of its risks, and SL and SA.
-#[derive(Drop)]
+// The losses of a group: n, L and A of each of its risks, which stand first of 255 entries and with 0 behind them, and SL and SA. It is
+// copied, which no list of the kit is.
+#[derive(Clone, Copy)]
 pub struct GroupLosses {
-    pub of_risks: ArrayVec<Losses, MOST_RISKS>,
+    pub risks: u32,
+    pub of_risks: [Losses; MOST_RISKS],
     pub total: u64,
     pub limited: u64,
+    pub ghost few: { risks ≤ most_risks },
+    pub ghost rest: { drop risks of_risks ≡ behind risks },
 }
 
 impl GroupLosses {
     // n.
     pub fn risks(&self) -> u32
-        ensures { result ≡ length self.now.of_risks.items }
+        ensures { result ≡ length (take self.now.risks self.now.of_risks) }
     {
-        self.of_risks.len() as u32
+        self.risks
     }
 
     // L and A of each of the risks.
     pub fn lent(&self) -> RiskLosses<'_>
-        ensures { result.each.now ≡ self.now.of_risks.items }
+        ensures { result.each.now ≡ take self.now.risks self.now.of_risks }
     {
         RiskLosses {
-            each: &self.of_risks,
+            each: &self.of_risks[..self.risks as usize],
         }
     }
 }

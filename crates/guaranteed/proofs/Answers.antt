@@ -21,7 +21,7 @@ use Rattle.laws.proofs.Calls.{gives}
 use Rattle.laws.proofs.Questions.{after-gate, or-passed, yes-to}
 use Rattle.laws.proofs.Comparisons.{beside}
 use Rattle.group.specs.Refusals.{number_of, answer_is}
-use Rattle.group.specs.Values.{losses_of, LossesAre}
+use Rattle.group.specs.Values.{losses_of, LossesAre, each_of}
 use Rattle.group.specs.declared.Refusal.{Refusal}
 use Rattle.group.specs.declared.Losses as declared_losses
 use Rattle.group.specs.declared.GroupLosses.{GroupLosses}
@@ -94,7 +94,7 @@ module _ (s : List ℕ) (ls : List Layer) (t : Terms)
       (or-passed (first_no (question13 (compare_enough s (length old_premiums) (length old_differences)) ∷ [])) _ asked).1
 
   -- what the code gives and leaves, by the losses that it is lent
-  module _ {xs : List declared_losses.Losses} (lent : xs ≡ g.of_risks.items) (c : Comparison) (premiums : List ℕ) (differences : List ℤ)
+  module _ {xs : List declared_losses.Losses} (lent : xs ≡ each_of g) (c : Comparison) (premiums : List ℕ) (differences : List ℤ)
       (rated : c.rated ≡ figures_by t (losses_of xs))
       (discounted : c.discount ≡ discount ls (header_of s).standard_premium)
       (less : c.guaranteed ≡ (header_of s).standard_premium - c.discount)

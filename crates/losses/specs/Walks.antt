@@ -2,7 +2,7 @@
 use Rattle.std.specs.Prelude.{◌≡◌, List, ℕ, length}
 use Rattle.plan.specs.Header.{header_bits}
 use Rattle.plan.specs.Losses.{losses_from}
-use Rattle.group.specs.Values.{losses_is}
+use Rattle.group.specs.Values.{losses_is, each_of}
 use Rattle.losses.specs.RunningSums.{SumsAre}
 use Rattle.losses.specs.declared.risks.SumsSoFar.{SumsSoFar}
 use Rattle.losses.specs.declared.walking.Walked.{Walked}
@@ -10,7 +10,7 @@ use Rattle.losses.specs.declared.walking.Walked.{Walked}
 -- the running sums as the walk leaves them
 abbrev pub sums_of : Walked → SumsSoFar
 sums_of r = record {
-  risks = length r.losses.of_risks.items;
+  risks = length (each_of r.losses);
   claims = r.counted.claims;
   each_opens = r.counted.each_opens;
   total = r.losses.total;

@@ -7,11 +7,10 @@ ghost use Rattle.plan.specs.Sizes.{most_risks};
 ghost use Rattle.losses.specs.Walks.{WalkIs};
 
 use crate::risks::{SumsSoFar, pass_risk};
-use arrayvec::ArrayVec;
 use bits::BitPlace;
 use claims::counts::Counted;
-use group::GroupLosses;
 use group::edition::ClaimFile;
+use group::{GroupLosses, Losses, MOST_RISKS};
 
 // What the walk gives: what the counts tell, and the losses.
 #[derive(Drop)]
@@ -26,7 +25,7 @@ pub fn walk(file: &ClaimFile<'_>, place: BitPlace, risks: u32, limit: u32) -> Wa
     requires { (risks ≤ most_risks) × (place.at ≡ header_bits) }
     ensures { WalkIs file.now.bytes.now risks limit result }
 {
-    let mut of_risks = ArrayVec::new();
+    let mut of_risks = [Losses::default(); MOST_RISKS];
     let mut sums = SumsSoFar {
         risks: 0,
         claims: 0,
@@ -35,9 +34,9 @@ pub fn walk(file: &ClaimFile<'_>, place: BitPlace, risks: u32, limit: u32) -> Wa
         limited: 0,
         next: place,
     };
-    for _ in 0..risks {
+    for i in 0..risks as usize {
         let risk = pass_risk(file, sums, limit);
-        of_risks.push(risk.losses);
+        of_risks[i] = risk.losses;
         sums = risk.sums;
     }
     Walked {
@@ -47,6 +46,7 @@ pub fn walk(file: &ClaimFile<'_>, place: BitPlace, risks: u32, limit: u32) -> Wa
             each_opens: sums.each_opens,
         },
         losses: GroupLosses {
+            risks,
             of_risks,
             total: sums.total,
             limited: sums.limited,

@@ -16,7 +16,7 @@ use Rattle.laws.proofs.Calls.{gives, buffer-filled}
 use Rattle.laws.proofs.Questions.{after-gate}
 use Rattle.laws.proofs.Demand3.{demand3}
 use Rattle.group.specs.Refusals.{number_of, answer_is}
-use Rattle.group.specs.Values.{losses_of, LossesAre}
+use Rattle.group.specs.Values.{losses_of, LossesAre, each_of}
 use Rattle.group.specs.declared.Refusal.{Refusal}
 use Rattle.group.specs.declared.Losses as declared_losses
 use Rattle.group.specs.declared.GroupLosses.{GroupLosses}
@@ -47,7 +47,7 @@ module _ (s old : List ℕ) where
 -- where questions 1 to 12 gave terms, and the group's losses are lent as xs
 module _ (s : List ℕ) (t : Terms)
     (gave : answer_is terms_is (Ok t) ≡ answer (first_no (rating_questions s)) (terms_of (header_of s) (losses_in s)))
-    {g : GroupLosses} (losses : LossesAre (losses_in s) g) {xs : List declared_losses.Losses} (lent : xs ≡ g.of_risks.items) where
+    {g : GroupLosses} (losses : LossesAre (losses_in s) g) {xs : List declared_losses.Losses} (lent : xs ≡ each_of g) where
   module _ (old new : List ℕ) {f : GroupFigures} (room : 4 * t.risks ≤ length old) (figures : f ≡ figures_by t (losses_of xs))
       (put : new ≡ filled (bytes_of (slots 32 (bills_of t (losses_of xs)))) old) where
     passed-all : first_no (rate_questions s (length old)) ≡ passed

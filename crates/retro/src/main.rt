@@ -46,7 +46,8 @@ fn print_risks(rt: &impl Print, details: &Details, premiums: &[u8]) -> io::Resul
     let (bills, _) = premiums.as_chunks::<4>();
     let risks = details
         .losses
-        .of_risks
+        .lent()
+        .each
         .iter()
         .zip(&details.ratables)
         .zip(bills);

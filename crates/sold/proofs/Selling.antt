@@ -25,7 +25,7 @@ use Rattle.laws.proofs.Questions.{after-gate, loss-sound}
 use Rattle.laws.proofs.FileSizes.{group-bounds}
 use Rattle.laws.proofs.Plans.{given-sold, refused-unsold}
 use Rattle.group.specs.Refusals.{number_of, answer_is}
-use Rattle.group.specs.Values.{header_is, losses_of, losses_is, LossesAre}
+use Rattle.group.specs.Values.{header_is, losses_of, losses_is, LossesAre, each_of}
 use Rattle.group.specs.declared.Refusal.{Refusal}
 use Rattle.group.specs.declared.Header as declared_header
 use Rattle.group.specs.declared.Losses as declared_losses
@@ -64,7 +64,7 @@ pub record AtHand (s : List ℕ) (v : declared_header.Header) (l : GroupLosses) 
 
 -- and what it looks for a basic premium by, with G and H: the terms, the losses and what is to be paid
 pub record LooksBy (v : declared_header.Header) (l : GroupLosses) (g h : ℕ) (t : sold_on_premiums.PlanTerms) (rs : List losses.Losses) (owed : ℕ) : Type 0 where
-  pub risks : t.risks ≡ length l.of_risks.items
+  pub risks : t.risks ≡ length (each_of l)
   pub conversion : t.conversion ≡ v.conversion
   pub tax : t.tax ≡ v.tax
   pub excess : t.excess ≡ excess_of v.conversion l.total l.limited
@@ -96,7 +96,7 @@ module _ {s : List ℕ} {v : declared_header.Header} {l : GroupLosses} (x : AtHa
     total_most = total_most;
   }
 
-  pub owed-bounds : (n : ℕ) → n ≡ length l.of_risks.items → OwedBounds n v.tax v.expense l.total
+  pub owed-bounds : (n : ℕ) → n ≡ length (each_of l) → OwedBounds n v.tax v.expense l.total
   owed-bounds n e = record {
     few = omega (arith, e, laws.risks x.losses, bounds.risks);
     tax_most = omega (arith, tax-is, bounds.sound.tax_most);

@@ -87,7 +87,7 @@ pub fn plan_for(file: &[u8], maximum: u32, minimum: u32, trials: u32) -> Result<
             maximum,
             minimum,
         },
-        losses: &losses.of_risks,
+        losses: losses.lent().each,
         owed: owed_of(risks, header.tax, header.expense, losses.total),
     };
     search(&target, trials)

@@ -9,7 +9,7 @@ use Rattle.plan.specs.Basic.{basic_of, basic_premium, excess_charge}
 use Rattle.plan.specs.Premium.{terms_of}
 use Rattle.laws.proofs.Sums.{sum-ext}
 use Rattle.laws.proofs.GroupSizes.{SA-le, SX-le, SS-le}
-use Rattle.group.specs.Values.{header_is, losses_is, GroupIs}
+use Rattle.group.specs.Values.{header_is, losses_is, GroupIs, each_of}
 use Rattle.group.specs.declared.Header.{Header}
 use Rattle.group.specs.declared.GroupLosses.{GroupLosses}
 use Rattle.group.proofs.Laws.{risks}
@@ -18,7 +18,7 @@ use Rattle.steps.specs.Marks.{MarksAre}
 use Rattle.steps.specs.declared.balance.MarkDollars.{MarkDollars}
 
 -- n risks, and LG and LH of their group
-module _ {h : Header} {g : GroupLosses} (b : GroupIs h g) {n : ℕ} (count : n ≡ length g.of_risks.items)
+module _ {h : Header} {g : GroupLosses} (b : GroupIs h g) {n : ℕ} (count : n ≡ length (each_of g))
     {m : MarkDollars} (marks : MarksAre (header_is h) (losses_is g) m) where
   n_is : n ≡ length (losses_is g)
   n_is = count ∙ risks b.losses

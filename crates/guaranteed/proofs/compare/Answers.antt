@@ -13,7 +13,7 @@ use Rattle.laws.proofs.Questions.{rating-sound}
 use Rattle.laws.proofs.FileSizes.{group-bounds}
 use Rattle.laws.proofs.Discounts.{discount_most}
 use Rattle.group.specs.Refusals.{number_of, verdict_is, answer_is}
-use Rattle.group.specs.Values.{losses_of}
+use Rattle.group.specs.Values.{losses_of, each_of}
 use Rattle.group.specs.declared.Losses as declared_losses
 use Rattle.group.specs.declared.Refusal.{Refusal}
 use Rattle.steps.specs.Terms.{terms_is}
@@ -115,7 +115,7 @@ module _ (c : In_ok-schedule_verdict) where
       (gives c.open_rating-terms.ensures c.in_ok-terms.was) c.open_rating-terms.ensures all-passed
 
   -- and both buffers have room for the losses that are lent
-  enough : {xs : List declared_losses.Losses} → xs ≡ c.open_rating-terms.result.losses.of_risks.items
+  enough : {xs : List declared_losses.Losses} → xs ≡ each_of c.open_rating-terms.result.losses
       → (4 * length xs ≤ length c.args.premiums.now) × (length xs ≤ length c.args.differences.now)
   enough lent =
       let s = c.args.file.now in

@@ -8,7 +8,7 @@ use Rattle.plan.specs.Losses.{losses_in}
 use Rattle.plan.specs.Table.{charge_sum, savings_sum}
 use Rattle.plan.specs.Call.{given}
 use Rattle.group.specs.Refusals.{verdict_is}
-use Rattle.group.specs.Values.{losses_is}
+use Rattle.group.specs.Values.{losses_is, each_of}
 use Rattle.group.proofs.Laws.{risks, alone}
 use Rattle.steps.proofs.Laws.{of-slice}
 use Rattle.groupfile.specs.Opening.{OpenedIs}
@@ -36,7 +36,7 @@ returns-then-r-gt-MOST_RATIO-clause-says c =
 
 -- what is at hand
 at-hand : {s : List ℕ} {r n : ℕ} {o : Opened Unit} → OpenedIs (loss_questions s) s o → o.verdict ≡ Ok tt → r ≤ most_ratio
-    → n ≡ length o.losses.of_risks.items → AtHand s r n o.losses.limited (losses_is o.losses)
+    → n ≡ length (each_of o.losses) → AtHand s r n o.losses.limited (losses_is o.losses)
 at-hand x e h count = record {
   passes = sym x.verdict ∙ ap verdict_is e;
   ratio = h;

@@ -7,7 +7,7 @@ use Rattle.plan.specs.Premium.{terms_of}
 use Rattle.plan.specs.Questions.{Verdict, first_no, rating_questions}
 use Rattle.plan.specs.Call.{answer}
 use Rattle.group.specs.Refusals.{answer_is}
-use Rattle.group.specs.Values.{losses_of, LossesAre}
+use Rattle.group.specs.Values.{losses_of, LossesAre, each_of}
 use Rattle.group.specs.declared.Losses as declared_losses
 use Rattle.group.specs.declared.GroupLosses.{GroupLosses}
 use Rattle.steps.specs.Terms.{terms_is}
@@ -25,10 +25,10 @@ limited f (x ∷ xs) = ap (λ (l : List ℕ). f x.limited ∷ l) (limited f xs)
 ratables-are : (s : List ℕ) (t : Terms) {g : GroupLosses}
     (gave : answer_is terms_is (Ok t) ≡ answer (first_no (rating_questions s)) (terms_of (header_of s) (losses_in s)))
     → LossesAre (losses_in s) g
-    → map (λ (x : declared_losses.Losses). clamp t.minimum t.maximum x.limited) g.of_risks.items ≡ map (ratable (header_of s) (losses_in s)) (losses_in s)
+    → map (λ (x : declared_losses.Losses). clamp t.minimum t.maximum x.limited) (each_of g) ≡ map (ratable (header_of s) (losses_in s)) (losses_in s)
 unfolding ratable
 ratables-are s t {g} gave x =
-    limited (clamp t.minimum t.maximum) g.of_risks.items
+    limited (clamp t.minimum t.maximum) (each_of g)
     ∙ (λ i. map (λ (r : Losses). clamp (terms-are s t gave i).minimum (terms-are s t gave i).maximum r.limited) (x.each i))
 
 pub returns : goal.returns

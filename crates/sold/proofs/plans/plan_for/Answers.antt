@@ -45,7 +45,7 @@ invariant_of-target c =
 pub invariant_of-target-2 : goal.invariant_of-target-2
 invariant_of-target-2 c =
     let x = at-hand (goal.at.invariant_of-target-2 c).In_ok-verdict in
-    record { limited_most = each x c.deref.result.now (ap losses_of c.deref.ensures.0) }
+    record { limited_most = each x c.lent.result.each.now (ap losses_of c.lent.ensures) }
 
 pub returns : goal.returns
 returns c =
@@ -57,7 +57,7 @@ returns c =
       excess = rw c.from.ensures at c.excess_of.ensures;
       maximum = refl;
       minimum = refl;
-      each = ap losses_of c.deref.ensures.0;
+      each = ap losses_of c.lent.ensures;
       owed_is = c.owed_of.ensures;
     }) c.args.trials c.search.result c.if-minimum-maximum.false c.search.ensures in
     record { says = alone e; sold = sold-by c.search.result _ _ _ _ e }

@@ -5,7 +5,7 @@ use Rattle.plan.specs.Marks.{mark_of, dollars, LG, LH}
 use Rattle.steps.specs.Measures.{mark_is}
 use Rattle.steps.specs.declared.marks.Mark.{Mark}
 use Rattle.group.proofs.Laws.{risks}
-use Rattle.group.specs.Values.{losses_is, GroupIs}
+use Rattle.group.specs.Values.{losses_is, GroupIs, each_of}
 use Rattle.group.specs.declared.Header.{Header}
 use Rattle.group.specs.declared.GroupLosses.{GroupLosses}
 use Rattle.steps.proofs.balance.marks_of.Goals as goal
@@ -13,7 +13,7 @@ use Rattle.steps.proofs.balance.marks_of.Goals as goal
 -- of a group, a mark that its kind makes of x thousandths
 dollars-are : {h : Header} {g : GroupLosses} → GroupIs h g → (m : Mark) (x : ℕ)
     → mark_is m ≡ mark_of h.mark_kind x
-    → {n : ℕ} → n ≡ length g.of_risks.items
+    → {n : ℕ} → n ≡ length (each_of g)
     → dollars (mark_is m) h.standard_premium n g.limited
     ≡ dollars (mark_of h.mark_kind x) h.standard_premium (length (losses_is g)) (SA (losses_is g))
 dollars-are {h} b m x is {n} e = λ i. dollars (is i) h.standard_premium ((e ∙ risks b.losses) i) (b.losses.limited i)
