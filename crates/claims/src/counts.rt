@@ -5,12 +5,12 @@ ghost use Rattle.std.specs.Prelude.{◌≡◌, ◌+◌, ◌≤◌};
 ghost use Rattle.plan.specs.Header.{header_bits};
 ghost use Rattle.plan.specs.Risk.{count_width};
 ghost use Rattle.plan.specs.Sizes.{most_risks, most_file_bits};
-ghost use Rattle.claims.specs.Counts.{HeadIs, CountedIs};
+ghost use Rattle.claims.specs.Counts.{CountIs, HeadIs, CountedIs};
 
 use crate::span::ClaimSpan;
-use bits::BitPlace;
-use group::edition::ClaimFile;
-use group::widths::{COUNT_WIDTH, joined_width};
+use bits::{BitPlace, Taken};
+use group::edition::{ClaimFile, Edition};
+use group::widths::{COUNT_WIDTH, JOINED_WIDTH};
 
 // What a risk begins with tells: where its claims are, and whether the first of them opens an accident.
 #[derive(Clone, Copy)]
@@ -28,21 +28,36 @@ pub struct Counted {
     pub each_opens: bool,
 }
 
-// The claims of the risk that begins at a place, and whether the first opens an accident: there is none, or its bit is 0. That bit
-// lies behind the count in the same word, and is one of no width in edition 1.
+// The number of claims of the risk that begins at a place, and the place of its first claim.
+pub fn count_at(file: &[u8], place: BitPlace) -> Taken<u32, BitPlace>
+    requires { place.at + count_width ≤ most_file_bits }
+    ensures { CountIs file.now place.at result }
+{
+    place.take(file, COUNT_WIDTH)
+}
+
+// The claims of the risk that begins at a place, and whether the first opens an accident: there is none, or it has no bit, or its bit,
+// which lies behind the count in the same word, is 0. A bit of no width would do in edition 1, but a walk over few claims each took a
+// sixth more instructions with it.
 pub fn head_at(file: &ClaimFile<'_>, place: BitPlace) -> RiskHead
     requires { place.at + count_width ≤ most_file_bits }
     ensures { HeadIs file.now.bytes.now place.at result }
 {
     let front = place.front(file.bytes, place.reach());
     let count = front.take(COUNT_WIDTH);
-    let bit = count.next.take(joined_width(file.edition));
+    let first_opens = match file.edition {
+        Edition::First => true,
+        Edition::Second => {
+            let bit = count.next.take(JOINED_WIDTH);
+            (count.value == 0) | (bit.value == 0)
+        }
+    };
     RiskHead {
         claims: ClaimSpan {
             first: count.next.place,
             count: count.value as u32,
         },
-        first_opens: (count.value == 0) | (bit.value == 0),
+        first_opens,
     }
 }
 

@@ -5,7 +5,8 @@ ghost use Rattle.plan.specs.Risk.{count_width};
 ghost use Rattle.claims.specs.Claim.{ClaimReach};
 
 use crate::claim::{FileClaim, claim_at};
-use crate::counts::head_at;
+use crate::counts::count_at;
+use crate::span::ClaimSpan;
 use bits::{BitPlace, Taken};
 use group::edition::ClaimFile;
 
@@ -38,7 +39,11 @@ impl Cursor {
         requires { self.place.at + count_width ≤ most_file_bits }
         ensures { NextRisk file.now.bytes.now self result }
     {
-        let claims = head_at(file, self.place).claims;
+        let count = count_at(file.bytes, self.place);
+        let claims = ClaimSpan {
+            first: count.next,
+            count: count.value,
+        };
         Taken {
             value: claims.count,
             next: Cursor {
