@@ -44,8 +44,11 @@ fn counts_add(counts: &[u8], claims: usize) -> bool
     ensures { result ≡ (all_fit count_width counts.now && eqb (sum counts.now) claims) }
 {
     let fit = counts.iter().all(|&count| u32::from(count) <= MOST_CLAIMS);
+    if !fit {
+        return false;
+    }
     let total: usize = counts.iter().map(|&count| usize::from(count)).sum();
-    fit & (total == claims)
+    total == claims
 }
 
 // Whether the dollars of the claims fit their width. All are looked at: a loop without another way out can compile to one over
