@@ -91,6 +91,7 @@ impl Column {
     pub fn row(self) -> [f64; COEFFICIENTS]
         ensures { result ≡ row_double self.hundredths }
     {
-        MATRIX[(self.hundredths - FIRST_COLUMN) as usize].map(coefficient)
+        let rows = &MATRIX;
+        rows[(self.hundredths - FIRST_COLUMN) as usize].map(coefficient)
     }
 }
