@@ -35,6 +35,17 @@ put-put {s} {t} {u} {at} {v} {a} {w} {b} p q =
       after = λ k h. q.after k (omega arith) ∙ p.after k (omega arith);
     }
 
+-- and so they are where the second of the two was put before the first
+pub put-put-back : {s t u : List ℕ} {at v a w b : ℕ} → Put s (at + v) w b t → Put t at v a u
+    → Put s at (v + w) (a * 2 ^ w + b) u
+put-put-back {s} {t} {u} {at} {v} {a} {w} {b} p q =
+    let second : field u (at + v) w ≡ b = put-after q (at + v) w (omega arith) ∙ p.here in record {
+      same = q.same ∙ p.same;
+      here = field-split u at v w ∙ ap₂ (λ (x y : ℕ). x * 2 ^ w + y) q.here second;
+      before = λ k h. q.before k h ∙ p.before k (omega arith);
+      after = λ k h. q.after k (omega arith) ∙ p.after k (omega arith);
+    }
+
 -- the field put is the field taken
 pub take_put : {s t : List ℕ} {at w v x q : ℕ} → Put s at w v t → Took t at w x q → x ≡ v
 take_put p k = k.is ∙ p.here

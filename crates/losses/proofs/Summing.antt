@@ -29,6 +29,19 @@ claim-le c = omega arith
 pub added-by : {r q : ClaimSums} {c d : FileClaim} → c ≡ d → ClaimAdded r (dollars (claim_of c)) q → ClaimAdded r (dollars (claim_of d)) q
 added-by {r} {q} e a = subst (λ (x : FileClaim). ClaimAdded r (dollars (claim_of x)) q) e a
 
+-- a claim added to sums of the same numbers, and given as sums of the same numbers
+pub added-as : {r p q s : ClaimSums} {x : ℕ} → ClaimAdded p x q → p.total ≡ r.total → p.limited ≡ r.limited → p.most ≡ r.most
+    → s.total ≡ q.total → s.limited ≡ q.limited → s.most ≡ q.most → ClaimAdded r x s
+added-as {r} {p} {q} {s} {x} a total limited most total-out limited-out most-out = record {
+  total = omega (arith, a.total, total, total-out);
+  limited = limited-out ∙ a.limited ∙ ap₂ (λ (n m : ℕ). n + min x m) limited most;
+  most = most-out ∙ a.most ∙ most;
+}
+
+-- and room in sums of the same numbers, whatever the limit leaves of a claim
+pub room-as : {r p : ClaimSums} → ClaimRoom r → p.total ≡ r.total → p.limited ≡ r.limited → p.most ≤ largest_claim → ClaimRoom p
+room-as w total limited bound = record { total = omega (arith, w.total, total); limited = omega (arith, w.limited, limited); bound = bound }
+
 pub summing-starts : (limit : ℕ) {r : ClaimSums} → r.total ≡ 0 → r.limited ≡ 0 → r.most ≡ limited_to limit largest_claim
     → ClaimsSummed [] limit r
 summing-starts limit t l m = record { total = t; limited = l ∙ sym (none-limited limit); most = m; each = omega arith }
