@@ -37,8 +37,8 @@ pub fn count_at(file: &[u8], place: BitPlace) -> Taken<u32, BitPlace>
 }
 
 // The claims of the risk that begins at a place, and whether the first opens an accident: there is none, or it has no bit, or its bit,
-// which lies behind the count in the same word, is 0. A bit of no width would do in edition 1, but a walk over few claims each took a
-// sixth more instructions with it.
+// which lies behind the count in the same word, is 0. A bit of no width would do in edition 1, but it took a walk some eight
+// instructions a risk.
 pub fn head_at(file: &ClaimFile<'_>, place: BitPlace) -> RiskHead
     requires { place.at + count_width ≤ most_file_bits }
     ensures { HeadIs file.now.bytes.now place.at result }

@@ -1,8 +1,7 @@
 -- The loop of the walk, over the risks. After k risks the running sums are those over the first k, and the losses kept are theirs. Each
 -- law takes one risk more. Assumes nothing.
 use Rattle.std.proofs.Common.{◌≡◌, sym, ap, ◌∙◌, arith, true, List, [], ◌∷◌, ◌++◌, ℕ, ◌+◌, ◌-◌, length, drop, replicate}
-use Rattle.std.proofs.Math.ListN.{set}
-use Rattle.std.proofs.lemmas.List.{map-append, length-map, drop-set-lt, drop-drop, drop-replicate}
+use Rattle.std.proofs.lemmas.List.{map-append, length-map, drop-drop, drop-replicate}
 use Rattle.plan.specs.Sizes.{most_risks}
 use Rattle.plan.specs.Header.{header_bits}
 use Rattle.plan.specs.Losses.{losses_from}
@@ -35,10 +34,9 @@ kept_more {s} {limit} {k} xs {ys} {r} e x is =
     ∙ sym (losses-so-far s limit header_bits k)
 
 -- and the entries behind it have 0, as before
-pub behind_more : (k : ℕ) (xs : List Losses) (x : Losses) → drop k xs ≡ behind k → drop (k + 1) (set xs k x) ≡ behind (k + 1)
-behind_more k xs x e =
-    drop-set-lt (k + 1) xs k x (omega arith)
-    ∙ sym (drop-drop 1 k xs)
+pub behind_more : (k : ℕ) (xs : List Losses) → drop k xs ≡ behind k → drop (k + 1) xs ≡ behind (k + 1)
+behind_more k xs e =
+    sym (drop-drop 1 k xs)
     ∙ ap (drop 1) e
     ∙ drop-replicate 1 (most_risks - k) _
     ∙ ap (λ (n : ℕ). replicate n (record { total = 0; limited = 0 })) (omega arith)

@@ -1,6 +1,7 @@
--- A turn passes the next risk, of which there are at most 255, and keeps its losses.
-use Rattle.std.proofs.Common.{◌≡◌, ◌<◌, ◌∙◌, refl, subst, arith, ℕ, length, take, drop, replicate}
-use Rattle.std.proofs.lemmas.List.{take_more_set, length-set}
+-- A turn passes the next risk, of which there are at most 255, and keeps its losses. `set-set` is for an entry that is stored in two steps,
+-- as an edit does.
+use Rattle.std.proofs.Common.{◌≡◌, ◌<◌, refl, subst, arith, rules, ℕ, length, take, drop, replicate}
+use Rattle.std.proofs.lemmas.List.{take_more_set, length-set, set-set, drop-set-lt}
 use Rattle.plan.specs.Sizes.{most_risks}
 use Rattle.plan.specs.Header.{header_bits}
 use Rattle.plan.specs.Losses.{losses_from}
@@ -18,9 +19,9 @@ loop-i-preserved c =
     let few : l.i < length l.of_risks = omega (arith, l.invariant.entries, c.loop-i-test.true, c.requires.0) in
     record {
       sums = p.sums;
-      kept = kept_more _ l.invariant.kept p (take_more_set l.of_risks l.i _ few);
-      entries = length-set l.of_risks l.i _ ∙ l.invariant.entries;
-      rest = behind_more l.i l.of_risks _ l.invariant.rest;
+      kept = kept_more _ l.invariant.kept p (search (rules, take_more_set, set-set, length-set, few));
+      entries = search (rules, length-set, l.invariant.entries);
+      rest = search (rules, drop-set-lt, behind_more l.i l.of_risks l.invariant.rest);
     }
 
 pub loop-i-init : goal.loop-i-init
