@@ -91,6 +91,7 @@ impl Column {
     pub fn row(self) -> [f64; COEFFICIENTS]
         ensures { result ≡ row_double self.hundredths }
     {
+        // By a reference: taken by value the matrix is made on the stack at each call.
         let rows = &MATRIX;
         rows[(self.hundredths - FIRST_COLUMN) as usize].map(coefficient)
     }

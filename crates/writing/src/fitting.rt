@@ -44,6 +44,7 @@ fn counts_add(counts: &[u8], claims: usize) -> bool
     ensures { result ≡ (all_fit count_width counts.now && eqb (sum counts.now) claims) }
 {
     let fit = counts.iter().all(|&count| u32::from(count) <= MOST_CLAIMS);
+    // The first count that does not fit ends it: the others are not added.
     if !fit {
         return false;
     }
